@@ -113,6 +113,7 @@ class Answers(unittest.TestCase):
         for word in ("robust", "needs"):
             self.assertEqual(call(word, BRIDGE[0], "-q").stdout, call("reference", word, BRIDGE[0]).stdout)
         self.assertEqual(call("robust", BRIDGE[0], "-q").stdout, b"snapshot isolation: enough\n")
+        self.assertEqual(call("robust", *BRIDGE, "-q").stdout, b"snapshot isolation: robust\n")
         self.assertNotEqual(call("reference", "--break", "commit-order", "run", *BRIDGE).stdout, b"")
 
     def test_version_and_help(self):

@@ -2,12 +2,12 @@
 
     sdd check | graph | table | advise CAT        sdd run | plain | inside CAT WORK
     sdd verify CAT WORK REPORT                    sdd control FILE        sdd make SEED N
-    sdd robust | needs CAT
+    sdd robust CAT [WORK]                         sdd needs CAT
 
 CAT is a catalogue, WORK a workload (docs/FORMATS.md); `-` is standard input. The text is that of the program to the
 byte, and so is the status, but that `verify` ends with 1 where the report is not serializable. A refusal of a file is
 printed with its place there, marked, the cause, and what helps. With --json all but `advise`, `inside` and `control` print
-JSON (`inside` always does).
+JSON (`inside` always does). `robust` with a workload is answered by the reference alone.
 
 The program is that of --program (and --inside; for `robust` and `needs` the `sdd1_ask` beside it); else the proved one,
 where it is installed; else an unproved build; else the reference of this package, which needs Python alone and is slower. A
@@ -30,14 +30,19 @@ from sdd.model.words import number_between
 from sdd.programs import add_program, asked_within, find_ask, find_programs, named, report_by, report_program
 
 NAMES = {"check": ["CAT"], "graph": ["CAT"], "table": ["CAT"], "advise": ["CAT"], "run": ["CAT", "WORK"], "plain": ["CAT", "WORK"],
-         "inside": ["CAT", "WORK"], "robust": ["CAT"], "needs": ["CAT"], "verify": ["CAT", "WORK", "REPORT"], "control": ["FILE"], "make": ["SEED", "N"]}
+         "inside": ["CAT", "WORK"], "robust": ["CAT", "[WORK]"], "needs": ["CAT"], "verify": ["CAT", "WORK", "REPORT"], "control": ["FILE"], "make": ["SEED", "N"]}
 QUESTIONS = ("robust", "needs")
+
+
+def member_of(name):
+    """The member that has the word of a place; one between brackets may be left out."""
+    return name.strip("[]").lower()
 
 
 def read_words(word):
     asked = parser(__doc__)
     for name in NAMES[word]:
-        asked.add_argument(name.lower(), metavar=name)
+        asked.add_argument(member_of(name), metavar=name.strip("[]"), nargs="?" if name.startswith("[") else None)
     add_program(asked)
     asked.add_argument("--inside", metavar="COMMAND", help="a built `sdd1_inside`")
     asked.add_argument("--quiet", "-q", action="store_true", help="no line says which program it is")
@@ -80,6 +85,10 @@ def files_of(words, room):
 
 def program_of(word, asked):
     """The words that begin the program's command, and those that follow them."""
+    if word == "robust" and asked.work is not None:
+        if asked.program not in (None, "reference"):
+            raise BadInput("robust with a workload is answered by the reference alone: leave --program out")
+        return find_ask("reference"), [word]
     if word in QUESTIONS:
         return find_ask(asked.program), [word]
     programs = find_programs(asked.program, asked.inside)
@@ -118,7 +127,7 @@ def refuse(answer, files):
 def main():
     word = sys.argv[0].split(" ")[-1]
     asked = read_words(word)
-    words = [getattr(asked, x.lower()) for x in NAMES[word]]
+    words = [given for given in (getattr(asked, member_of(name)) for name in NAMES[word]) if given is not None]
     if word == "make" and (number_between(words[0], 0, 2**31 - 1) is None or number_between(words[1], 0, 2048) is None):
         raise BadInput("SEED is a whole number from 0 to 2147483647, and N one from 0 to 2048")
     with tempfile.TemporaryDirectory(prefix="sdd-") as room:

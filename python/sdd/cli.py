@@ -34,7 +34,7 @@ COMMANDS = {
     "inside": Command(RUN, "sdd.calls", "what happens inside a run, a line for each event"),
     "make": Command(RUN, "sdd.calls", "a summary of drawn transactions"),
     "control": Command(RUN, "sdd.calls", "how backup sites complete a commit"),
-    "robust": Command(RUN, "sdd.calls", "whether snapshot isolation is enough for the classes"),
+    "robust": Command(RUN, "sdd.calls", "whether snapshot isolation is enough for classes, or for transactions"),
     "needs": Command(RUN, "sdd.calls", "which modules each class needs"),
     "reference": Command(RUN, "sdd.reference.commands", "the same words, by the reference; also with a rule broken"),
     "explain": Command(RUN, "sdd.explain.explain", "what a refusal means, and what helps"),

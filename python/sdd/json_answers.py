@@ -45,14 +45,24 @@ def verdict_data(text):
     return {"serializable": words[0] == "yes", **({"line": int(words[1])} if len(words) > 1 else {})}
 
 
+
 def robust_data(text):
-    """What `robust` prints: a second line tells the first read that has P3."""
-    lines = text.split("\n")
-    shown = {"enough": lines[0] == "snapshot isolation: enough"}
-    if shown["enough"]:
-        return shown
-    reader, _, fragment, _, writer, _ = lines[1].replace(",", "").split(" ")
-    return {**shown, "reader": reader, "fragment": fragment, "writer": writer}
+    """What `robust` prints: of classes a second line tells the first read that has P3."""
+    answer, *lines = text.removeprefix("snapshot isolation: ").split("\n")[:-1]
+    if answer in ROBUST:
+        return {"robust": ROBUST[answer], **robust_why(lines)}
+    if answer == "enough":
+        return {"enough": True}
+    reader, _, fragment, _, writer, _ = lines[0].replace(",", "").split(" ")
+    return {"enough": False, "reader": reader, "fragment": fragment, "writer": writer}
+
+
+def robust_why(lines):
+    """A run of transactions that is like no serial one, or the three by which one may be a pivot."""
+    words = [line.replace(",", "").split(" ") for line in lines]
+    if words and words[0][0] == "pivot":
+        return {name: words[0][n] for name, n in (("pivot", 1), ("missed", 4), ("missing", 9))}
+    return {"run": [{"step": step, "txn": txn} for step, txn in words]} if words else {}
 
 
 def needs_data(text):
@@ -81,5 +91,6 @@ def report_data(text):
             "copies": [{"at": at, "fragment": fragment, "rows": rows} for (at, fragment), rows in report.copies.items()]}
 
 
+ROBUST = {"robust": True, "not robust": False, "unknown": None}       # what is answered of a workload
 SHOWN = {"check": catalogue_data, "graph": graph_data, "table": table_data, "make": figures_data, "verify": verdict_data,
          "robust": robust_data, "needs": needs_data, "plain": plain_data, "run": report_data}

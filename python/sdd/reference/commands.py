@@ -3,6 +3,7 @@
     sdd reference [--break RULE] WORD ..        RULE is one of those of sdd/reference/breaking.py
     sdd reference inside CAT WORK               the states of a run, as JSON lines (sdd/reference/inside.py)
     sdd reference robust CAT | needs CAT        what `sdd1_ask` answers (sdd/reference/ask.py)
+    sdd reference robust CAT WORK               the same of transactions (sdd/reference/robust.py)
 
 From words and files it makes a status, a line on standard error, and a text. Words are judged first, then the catalogue, then the workload, then the report. Definition: docs/FORMATS.md, "Words";
 crates/sdd_app/specs/Answer.antt, Command.antt.
@@ -22,6 +23,7 @@ from sdd.reference.inside import inside_text
 from sdd.reference.made import made_text
 from sdd.reference.plain import plain_text
 from sdd.reference.report import report_text
+from sdd.reference.robust import robust_work_text
 from sdd.reference.verify import verdict_text
 from sdd.reference.world import Limit, run
 
@@ -41,7 +43,7 @@ def run_text(cat, work):
     return report_text(run(cat, work))
 
 
-OF_WORKLOAD = {"run": run_text, "plain": plain_text, "inside": inside_text}
+OF_WORKLOAD = {"run": run_text, "plain": plain_text, "inside": inside_text, "robust": robust_work_text}
 
 
 def text_of(words, read):
