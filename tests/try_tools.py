@@ -24,7 +24,7 @@ P = ["--program", "PROGRAM"]
 GOOD = [
     ["check", CAT] + P, ["run", CAT, WORK, "--json"] + P, ["verify", CAT, WORK, REPORT] + P, ["inside", CAT, WORK, "--program", "reference"],
     ["make", "5", "20"] + P, ["reference", "table", CAT], ["graph-picture", CAT] + P, ["page", CAT, WORK] + P, ["make_pyz.py", "ROOM/sdd.pyz"],
-    ["link_documents.py", "--check"], ["find-broken", "all-p1", "examples/broken/all-p1/catalogue.toml", "examples/broken/all-p1/workload", "0", "1"],
+    ["link_documents.py", "--check"], ["check_tables.py", "--check"], ["try_cases.py"] + P, ["find-broken", "all-p1", "examples/broken/all-p1/catalogue.toml", "examples/broken/all-p1/workload", "0", "1"],
     ["make-workload", "bank", "3", "--into", "ROOM/new/bank"],
     ["make-workload", "tpcc", "3", "--design", "owners", "--into", "ROOM/tpcc"],
     ["explore", CAT, WORK, "--runs", "3", "--picture", "ROOM/picture.svg"] + P,
@@ -97,6 +97,8 @@ BAD = [
     ["history", CAT, WORK, "--engine", "sqlite", "--lose", "0.5", "--into", "ROOM/x"],
     ["judge"], ["judge", "/no/a"], ["judge", WORK] + P, ["judge", "ROOM/history"] + P, ["judge", "ROOM/h.jsonl", "--program", "/no/p"],
     ["judge", "ROOM/h.jsonl", "--into", "/proc/x"] + P,
+    ["build_unproved.py"], ["build_unproved.py", "ROOM/x", "nocrate"], ["link_program.py"], ["link_program.py", "/no/a", "ROOM/x"],
+    ["try_cases.py"], ["try_cases.py", "--program", "/no/p"], ["make_site.py"], ["make_site.py", "/proc/x", "--program", "/no/p"],
     ["program.py"], ["program.py", "nonsense"], ["program.py", "check", "/no/a"],
     ["write_log_examples.py", "x"], ["crate_paths.py", "--crates", "/no/a"], ["crate_paths.py", "--top", "nocrate"],
 ]
