@@ -13,8 +13,10 @@ What a person edits is tools/cases:
 
 catalogues/               texts that cases name, as those of crates/sdd1/data
 calls.txt                 a call a line: `plain own.toml put_and_query.work`; a file of examples/ is named
-                          with its folder: `run bridge/catalogue.toml bridge/workload`
-workloads.txt             `NAME | CATALOGUE | COMMAND .. | LINE / LINE ..`, a case for each command
+                          with its folder: `run bridge/catalogue.toml bridge/workload`; `inside` in the
+                          place of a command is a call of `sdd1_inside`
+workloads.txt             `NAME | CATALOGUE | COMMAND .. | LINE / LINE ..`, a case for each command, and
+                          for `inside` likewise
 catalogue_faults.txt      `NAME | CATALOGUE | FAULT | OLD => NEW`, the catalogue with its first OLD
                           replaced, `NAME | CATALOGUE | FAULT | + LINE / LINE ..` with lines behind it,
                           or `NAME | - | FAULT | LINE / LINE ..` with nothing else
@@ -37,6 +39,7 @@ CASES = os.path.join(TOP, "tools", "cases")
 EXAMPLES = os.path.join(TOP, "examples")
 KEPT = [os.path.join(TOP, "crates", "sdd1", "data"), os.path.join(CASES, "catalogues")]
 NO_LIMIT = 2**64
+INSIDE = "sdd1_inside"
 ROOM = 1 << 20
 READ_FAULT, WRITE_FAULT = (6, b"read fault\n"), (7, b"write fault\n")
 
@@ -47,6 +50,7 @@ class Case:
     def __init__(self, name):
         self.name = name
         self.lines = []         # as they stand in the input
+        self.program = "sdd1"
         self.words = []
         self.files = {}         # name -> bytes
         self.numbers = {}
@@ -55,6 +59,10 @@ class Case:
 
     def number(self, key, without):
         return self.numbers.get(key, without)
+
+    def call(self):
+        """The words by which the reference is asked."""
+        return ["inside"] + self.words if self.program == INSIDE else self.words
 
 
 def piece(line):
@@ -88,7 +96,9 @@ def take(case, kept, line):
         case.expected.append(value)
         return
     case.lines.append(line)
-    if key == "words":
+    if key == "program":
+        case.program = value
+    elif key == "words":
         case.words = value.split(" ")
     elif key == "text":
         case.last = value
@@ -127,13 +137,21 @@ def made(name, lines, kept, fault=None):
     return case
 
 
+def call_lines(command, names):
+    """The lines of a call on files of these names."""
+    if command == "inside":
+        return ["program " + INSIDE, "words " + " ".join(names)]
+    return ["words " + " ".join([command] + names)]
+
+
 def read_calls(path, kept):
     cases = []
     with open(path, encoding="utf-8") as f:
         for line in f.read().split("\n"):
             if line and not line.startswith("#"):
-                names = [x for x in line.split(" ")[1:] if x in kept]
-                cases.append(made(line, ["words " + line] + ["file %s %s" % (x, x) for x in names], kept))
+                command, *names = line.split(" ")
+                lines = call_lines(command, names) + ["file %s %s" % (x, x) for x in names if x in kept]
+                cases.append(made(line, lines, kept))
     return cases
 
 
@@ -169,7 +187,7 @@ def read_workloads(path, kept):
     cases = []
     for name, base, commands, work in table(path):
         for command in commands.split(" "):
-            lines = ["words %s cat work" % command, "file cat " + base, "text work"] + ["|" + x for x in work.split(" / ")]
+            lines = call_lines(command, ["cat", "work"]) + ["file cat " + base, "text work"] + ["|" + x for x in work.split(" / ")]
             cases.append(made("%s: %s" % (command, name), lines, kept))
     return cases
 
@@ -209,11 +227,11 @@ class Outside:
         return self.known[key]
 
     def answer(self, case, files, shelf_fails, out_fails):
-        status, reported, text = self.reference(case.words, files)
+        status, reported, text = self.reference(case.call(), files)
         if shelf_fails:
             if case.number("reads", 0) != 1:
                 sys.exit("%s: what fails is known only where a read gives one byte" % case.name)
-            if shelf_fails <= shelf_calls(case.words, files, status):
+            if shelf_fails <= shelf_calls(case.call(), files, status):
                 (status, reported), text = READ_FAULT, b""
         taken = fed(text, case.number("out-takes", NO_LIMIT), case.number("out-room", ROOM), out_fails)
         if taken != text:
