@@ -343,15 +343,15 @@ def kept_texts():
     return kept
 
 
-def read_all(kept):
-    """All cases, in the order in which they are written."""
+def read_all(kept, but=()):
+    """All cases, in the order in which they are written; but for those of some files that end in .cases."""
     cases = read_calls(os.path.join(CASES, "calls.txt"), kept)
     cases += read_workloads(os.path.join(CASES, "workloads.txt"), kept)
     cases += read_catalogue_faults(os.path.join(CASES, "catalogue_faults.txt"), kept)
     cases += read_workload_faults(os.path.join(CASES, "workload_faults.txt"), kept)
     cases += read_controls(os.path.join(CASES, "controls.txt"), kept)
     for name in sorted(os.listdir(CASES)):
-        if name.endswith(".cases"):
+        if name.endswith(".cases") and name not in but:
             cases += read_cases(os.path.join(CASES, name), kept)
     return cases
 

@@ -27,7 +27,8 @@ from sdd.model.files import BadInput
 
 TOP = os.path.dirname(os.path.dirname(os.path.abspath(__file__)))
 CHANGES = os.path.join(TOP, "tools", "changes")
-LONGEST = 60_000        # bytes of a case's files: longer ones try sizes, which no change is of
+SIZES = ["limits.cases"]        # cases of sizes, which no change is of
+LONGEST = 60_000                # bytes of a case's files, likewise
 SHOWN = 2
 
 
@@ -77,7 +78,7 @@ def cases_of(commands):
     """The cases of these commands whose answers the reference gives, and the worked logs as calls of `run`."""
     import make_cases
     from log_examples import LOGS
-    for case in make_cases.read_all(make_cases.kept_texts()):
+    for case in make_cases.read_all(make_cases.kept_texts(), SIZES):
         size = sum(len(x) for x in case.files.values())
         if not case.expected and set(case.call()[:1]) & set(commands) and size <= LONGEST:
             yield case
@@ -92,7 +93,9 @@ def answer_lines(outside, case):
     import make_cases
     try:
         return make_cases.expected_lines(outside, case)
-    except Exception as fault:      # a change may stop the reference: that is another answer
+    except (NameError, AttributeError, ImportError):
+        raise                       # the change is no program
+    except Exception as fault:      # it stops the reference here: that is another answer
         return ["stopped by " + type(fault).__name__]
 
 
