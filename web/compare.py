@@ -82,7 +82,7 @@ class Comparison:
     def calls(self):
         for case in make_cases.read_all(make_cases.kept_texts()):
             for files in fronts(case):
-                self.same("case " + case.name, "sdd1", case.words, files)
+                self.same("case " + case.name, "inside" if case.program == make_cases.INSIDE else "sdd1", case.words, files)
 
     def examples(self):
         for name in sorted(os.listdir(EXAMPLES)):
