@@ -55,7 +55,7 @@ GOOD = [
     ["benchmark.py", "--only", "bank", "rows", "largest", "--part", "100", "--beside", "PROGRAM"] + P,
     ["measure_gate.py", "--log", "ROOM/log", "--into", "ROOM/gate", "--", "true"],
     ["write_log_examples.py", "--check"], ["proof_map.py", "--into", "ROOM/map", "--picture", "ROOM/map.svg"], ["proof_map.py", "--unused"],
-    ["layers.py", "--into", "ROOM/layers.svg"], ["crate_paths.py", "--most", "35000"],
+    ["layers.py", "--into", "ROOM/layers.svg"], ["crate_paths.py", "--most", "40000"], ["try_changes.py", "verify"],
     ["page", CAT, WORK, "--into", "ROOM/page.html"] + P, ["picture", REPORT, CAT, WORK, "--into", "ROOM/run.svg"] + P,
     ["graph-picture", "examples/ycsb/catalogue.toml", "--into", "ROOM/matrix.svg"] + P, ["check_inside.py", "0", "3"],
 ]
@@ -101,6 +101,7 @@ BAD = [
     ["try_cases.py"], ["try_cases.py", "--program", "/no/p"], ["make_site.py"], ["make_site.py", "/proc/x", "--program", "/no/p"],
     ["program.py"], ["program.py", "nonsense"], ["program.py", "check", "/no/a"],
     ["write_log_examples.py", "x"], ["crate_paths.py", "--crates", "/no/a"], ["crate_paths.py", "--top", "nocrate"],
+    ["try_changes.py", "nogroup"], ["try_changes.py", "--jobs", "x"],
 ]
 
 

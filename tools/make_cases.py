@@ -13,8 +13,10 @@ What a person edits is tools/cases:
 
 catalogues/               texts that cases name, as those of crates/sdd1/data
 calls.txt                 a call a line: `plain own.toml put_and_query.work`; a file of examples/ is named
-                          with its folder: `run bridge/catalogue.toml bridge/workload`
-workloads.txt             `NAME | CATALOGUE | COMMAND .. | LINE / LINE ..`, a case for each command
+                          with its folder: `run bridge/catalogue.toml bridge/workload`; `inside` in the
+                          place of a command is a call of `sdd1_inside`
+workloads.txt             `NAME | CATALOGUE | COMMAND .. | LINE / LINE ..`, a case for each command, and
+                          for `inside` likewise
 catalogue_faults.txt      `NAME | CATALOGUE | FAULT | OLD => NEW`, the catalogue with its first OLD
                           replaced, `NAME | CATALOGUE | FAULT | + LINE / LINE ..` with lines behind it,
                           or `NAME | - | FAULT | LINE / LINE ..` with nothing else
@@ -30,15 +32,14 @@ import argparse
 import os
 import sys
 
-from answers import NoProgram, Program, reference_answer
+from answers import NoProgram
+from case_answers import Outside, expected_lines
 
 TOP = os.path.join(os.path.dirname(os.path.abspath(__file__)), "..")
 CASES = os.path.join(TOP, "tools", "cases")
 EXAMPLES = os.path.join(TOP, "examples")
 KEPT = [os.path.join(TOP, "crates", "sdd1", "data"), os.path.join(CASES, "catalogues")]
-NO_LIMIT = 2**64
-ROOM = 1 << 20
-READ_FAULT, WRITE_FAULT = (6, b"read fault\n"), (7, b"write fault\n")
+INSIDE = "sdd1_inside"
 
 
 class Case:
@@ -47,6 +48,7 @@ class Case:
     def __init__(self, name):
         self.name = name
         self.lines = []         # as they stand in the input
+        self.program = "sdd1"
         self.words = []
         self.files = {}         # name -> bytes
         self.numbers = {}
@@ -55,6 +57,10 @@ class Case:
 
     def number(self, key, without):
         return self.numbers.get(key, without)
+
+    def call(self):
+        """The words by which the reference is asked."""
+        return ["inside"] + self.words if self.program == INSIDE else self.words
 
 
 def piece(line):
@@ -88,7 +94,9 @@ def take(case, kept, line):
         case.expected.append(value)
         return
     case.lines.append(line)
-    if key == "words":
+    if key == "program":
+        case.program = value
+    elif key == "words":
         case.words = value.split(" ")
     elif key == "text":
         case.last = value
@@ -127,13 +135,21 @@ def made(name, lines, kept, fault=None):
     return case
 
 
+def call_lines(command, names):
+    """The lines of a call on files of these names."""
+    if command == "inside":
+        return ["program " + INSIDE, "words " + " ".join(names)]
+    return ["words " + " ".join([command] + names)]
+
+
 def read_calls(path, kept):
     cases = []
     with open(path, encoding="utf-8") as f:
         for line in f.read().split("\n"):
             if line and not line.startswith("#"):
-                names = [x for x in line.split(" ")[1:] if x in kept]
-                cases.append(made(line, ["words " + line] + ["file %s %s" % (x, x) for x in names], kept))
+                command, *names = line.split(" ")
+                lines = call_lines(command, names) + ["file %s %s" % (x, x) for x in names if x in kept]
+                cases.append(made(line, lines, kept))
     return cases
 
 
@@ -169,7 +185,7 @@ def read_workloads(path, kept):
     cases = []
     for name, base, commands, work in table(path):
         for command in commands.split(" "):
-            lines = ["words %s cat work" % command, "file cat " + base, "text work"] + ["|" + x for x in work.split(" / ")]
+            lines = call_lines(command, ["cat", "work"]) + ["file cat " + base, "text work"] + ["|" + x for x in work.split(" / ")]
             cases.append(made("%s: %s" % (command, name), lines, kept))
     return cases
 
@@ -188,116 +204,6 @@ def read_controls(path, kept):
         lines = ["words control script", "text script"] + ["|" + x for x in text.split(" / ")]
         cases.append(made("control: " + name, lines, kept, "" if fault == "accepted" else "workload: " + fault))
     return cases
-
-
-class Outside:
-    """What a call answers: from the reference, and by the rules for calls that fail.
-
-    A file of n bytes takes n + 2 calls of a shelf that gives one byte a read: one opens it, and the last
-    finds its end. The catalogue is read first; where it has a fault, the workload isn't read. A sink that
-    takes m bytes a call takes the next m in each call, until one fails or takes none.
-    """
-
-    def __init__(self, command):
-        self.ask = Program("the reference", command).answer if command else reference_answer
-        self.known = {}
-
-    def reference(self, words, files):
-        key = (tuple(words), tuple(sorted(files.items())))
-        if key not in self.known:
-            self.known[key] = self.ask(words, files)
-        return self.known[key]
-
-    def answer(self, case, files, shelf_fails, out_fails):
-        status, reported, text = self.reference(case.words, files)
-        if shelf_fails:
-            if case.number("reads", 0) != 1:
-                sys.exit("%s: what fails is known only where a read gives one byte" % case.name)
-            if shelf_fails <= shelf_calls(case.words, files, status):
-                (status, reported), text = READ_FAULT, b""
-        taken = fed(text, case.number("out-takes", NO_LIMIT), case.number("out-room", ROOM), out_fails)
-        if taken != text:
-            status, reported = WRITE_FAULT
-        reported = fed(reported, case.number("err-takes", NO_LIMIT), case.number("err-room", ROOM), case.number("err-fails", 0))
-        return status, reported, taken
-
-
-def shelf_calls(words, files, status):
-    """How many calls of the shelf, one byte a read, come to the end of the files that are read."""
-    named = words[1:] if status != 3 else words[1:2]
-    return sum(len(files[x]) + 2 for x in named)
-
-
-def fed(text, most, room, fails):
-    """What a sink takes of a text."""
-    taken = call = 0
-    while taken < len(text):
-        call += 1
-        n = min(most, room - taken, len(text) - taken)
-        if call == fails or n == 0:
-            break
-        taken += n
-    return text[:taken]
-
-
-def front(data, lines):
-    """The first lines of the bytes."""
-    return b"".join(data.splitlines(keepends=True)[:lines]) if b"\r" not in data else sys.exit("a return in a file that is cut")
-
-
-def runs(outside, case):
-    """The number and the answer of each run."""
-    shelf_fails, out_fails = case.number("shelf-fails", 0), case.number("out-fails", 0)
-    if not case.each:
-        yield 0, outside.answer(case, case.files, shelf_fails, out_fails)
-    elif case.each.startswith("cut-byte "):
-        name = case.each[9:]
-        for k in range(len(case.files[name]) + 1):
-            yield k, outside.answer(case, dict(case.files, **{name: case.files[name][:k]}), shelf_fails, out_fails)
-    elif case.each.startswith("cut "):
-        name = case.each[4:]
-        data = case.files[name]
-        for k in range(data.count(b"\n") + 1):
-            files = dict(case.files)
-            files[name] = data if k == data.count(b"\n") else front(data, k)
-            yield k, outside.answer(case, files, shelf_fails, out_fails)
-    else:
-        for k in range(1, 10000):
-            if case.each == "shelf-call":
-                got = outside.answer(case, case.files, k, out_fails)
-                last = got[0] != 6
-            else:
-                got = outside.answer(case, case.files, shelf_fails, k)
-                last = got[0] != 7
-            yield k, got
-            if last:
-                return
-
-
-def answer_lines(answer):
-    status, reported, text = answer
-    lines = ["status %d" % status]
-    for mark, data in (("!", reported), ("|", text)):
-        pieces = data.decode().split("\n")
-        lines += [mark + x for x in pieces[:-1]]
-        if pieces[-1]:
-            lines.append(">" + pieces[-1])
-    return lines
-
-
-def expected_lines(outside, case):
-    if case.expected:
-        return case.expected
-    lines, group = [], []
-    for number, answer in list(runs(outside, case)) + [(None, None)]:
-        if group and group[0][1] != answer:
-            first, last = group[0][0], group[-1][0]
-            if case.each:
-                lines.append("run %d" % first if first == last else "runs %d to %d" % (first, last))
-            lines += answer_lines(group[0][1])
-            group = []
-        group.append((number, answer))
-    return lines
 
 
 def check_fault(case, lines):
@@ -325,15 +231,15 @@ def kept_texts():
     return kept
 
 
-def read_all(kept):
-    """All cases, in the order in which they are written."""
+def read_all(kept, but=()):
+    """All cases, in the order in which they are written; but for those of some files that end in .cases."""
     cases = read_calls(os.path.join(CASES, "calls.txt"), kept)
     cases += read_workloads(os.path.join(CASES, "workloads.txt"), kept)
     cases += read_catalogue_faults(os.path.join(CASES, "catalogue_faults.txt"), kept)
     cases += read_workload_faults(os.path.join(CASES, "workload_faults.txt"), kept)
     cases += read_controls(os.path.join(CASES, "controls.txt"), kept)
     for name in sorted(os.listdir(CASES)):
-        if name.endswith(".cases"):
+        if name.endswith(".cases") and name not in but:
             cases += read_cases(os.path.join(CASES, name), kept)
     return cases
 

@@ -3,9 +3,9 @@
 
     tools/try_cases.py --program COMMAND
 
-A case whose files are cut is a call for each cut. Left out are shelves and sinks that fail, which no call has. The gate runs
-all cases within one program; this tries a program as it is installed. It prints each difference, and ends with 1 where there
-is one; it takes half a minute.
+A case whose files are cut is a call for each cut. Left out are cases of other programs, and shelves and sinks that fail, which
+no call has. The gate runs all cases within one program; this tries a program as it is installed. It prints each difference,
+and ends with 1 where there is one; it takes half a minute.
 """
 import sdd_path  # noqa: F401
 import make_cases
@@ -26,11 +26,11 @@ def fronts(case):
         yield {**case.files, name: b"".join(pieces[:k])}
 
 
-def calls():
-    """The name, the words and the files of each call."""
+def calls(program):
+    """The name, the words and the files of each call of this program."""
     for case in make_cases.read_all(make_cases.kept_texts()):
-        for files in fronts(case):
-            yield case.name, case.words, files
+        if case.program == program:
+            yield from ((case.name, case.words, files) for files in fronts(case))
 
 
 def difference(call, program):
@@ -52,7 +52,7 @@ def main():
     except NoProgram as fault:
         raise BadInput(str(fault)) from None
     tried = different = 0
-    for call in calls():
+    for call in calls("sdd1"):
         found, tried = difference(call, program), tried + 1
         if found:
             different += 1

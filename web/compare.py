@@ -21,6 +21,7 @@ import time
 from node import Node
 from repository import CASES, EXAMPLES
 
+import make_cases
 import random_calls
 import try_cases
 from answers import NoProgram, Program
@@ -68,8 +69,9 @@ class Comparison:
         print("cases: the text of %d cases" % (want.count(b"\ncase ") + want.startswith(b"case ")))
 
     def calls(self):
-        for name, words, files in try_cases.calls():
-            self.same("case " + name, "sdd1", words, files)
+        for program, called in (("sdd1", "sdd1"), ("inside", make_cases.INSIDE)):
+            for name, words, files in try_cases.calls(called):
+                self.same("case " + name, program, words, files)
 
     def examples(self):
         for name in sorted(os.listdir(EXAMPLES)):

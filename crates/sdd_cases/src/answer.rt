@@ -1,10 +1,11 @@
-//! One call of the program, and what it answers.
+//! One call of a program, and what it answers.
 ghost use Rattle.std.specs.Prelude.{◌≡◌, IsTrue};
 
-use crate::case::{Case, Taking};
+use crate::case::{Case, Program, Taking};
 use crate::text::Text;
 use anyhow::{Result, anyhow};
 use sdd_app::run_sdd1;
+use sdd_app_inside::run_inside;
 use sdd_base::{Bytes, CallNos, Files, MemShelf, MemSink, ShelfFile};
 use sdd_shell::Status;
 use std::alloc::Global;
@@ -44,7 +45,11 @@ pub fn call(alloc: Global, case: &Case, run: Run<'_>) -> Result<Answer> {
     let mut shelf = MemShelf::new(files, case.reads.max(1), calls(alloc, run.shelf_fails)?);
     let mut out = sink(alloc, case.out, run.out_fails)?;
     let mut err = sink(alloc, case.err, case.err.fails)?;
-    let status = run_sdd1(alloc, case.words.as_slice(), &mut shelf, &mut out, &mut err);
+    let words = case.words.as_slice();
+    let status = match case.program {
+        Program::Sdd1 => run_sdd1(alloc, words, &mut shelf, &mut out, &mut err),
+        Program::Inside => run_inside(alloc, words, &mut shelf, &mut out, &mut err),
+    };
     Ok(Answer { status, out, err })
 }
 

@@ -21,6 +21,13 @@ pub enum Each {
     OutCall,
 }
 
+/// The program whose call a case makes.
+#[derive(Clone, Copy)]
+pub enum Program {
+    Sdd1,
+    Inside,
+}
+
 /// How a sink is made to fail. A call's number 0 is that of none.
 #[derive(Clone, Copy)]
 pub struct Taking {
@@ -37,10 +44,11 @@ impl Taking {
     };
 }
 
-/// A call of the program, with the files and sinks that it has.
+/// A call of a program, with the files and sinks that it has.
 #[derive(Drop)]
 pub struct Case {
     pub name: String,
+    pub program: Program,
     pub words: Vec<String>,
     pub files: Vec<Text>,
     pub reads: usize,
@@ -55,6 +63,7 @@ impl Case {
     pub fn new(alloc: Global, name: &str) -> Result<Self> {
         Ok(Case {
             name: String::from_str(alloc, name)?,
+            program: Program::Sdd1,
             words: Vec::new(alloc),
             files: Vec::new(alloc),
             reads: usize::MAX,
@@ -68,6 +77,7 @@ impl Case {
     /// Takes a line that sets one thing.
     pub fn set(&mut self, alloc: Global, key: &str, value: &str) -> Result<()> {
         match key {
+            "program" => self.program = program(value)?,
             "words" => self.words = words(alloc, value)?,
             "each" => self.each = self.each_of(alloc, value)?,
             _ => self.set_number(key, value)?,
@@ -112,6 +122,14 @@ impl Case {
     /// The file of a name.
     pub fn file(&self, name: &str) -> Option<&Text> {
         self.files.iter().find(|file| file.name.as_str() == name)
+    }
+}
+
+fn program(name: &str) -> Result<Program> {
+    match name {
+        "sdd1" => Ok(Program::Sdd1),
+        "sdd1_inside" => Ok(Program::Inside),
+        _ => bail!("no such program"),
     }
 }
 

@@ -1,4 +1,4 @@
-//! Runs the cases of its standard input through the top call, and prints what each answers.
+//! Runs the cases of its standard input through the top call of a program, and prints what each answers.
 //!
 //! What is expected stands in `stdout`, made elsewhere. The input is text, line by line; blank
 //! lines and lines that begin with `#` are skipped.
@@ -7,6 +7,7 @@
 //! |---|---|
 //! | `keep NAME` | a text that cases may name begins; its lines follow |
 //! | `case NAME` | a case begins; no other has its name |
+//! | `program NAME` | whose call it is: `sdd1`, as where the line is left out, or `sdd1_inside` |
 //! | `words W ..` | the words of the call, none where the line is left out |
 //! | `file NAME KEPT` | the shelf has the kept text KEPT under NAME |
 //! | `text NAME` | the shelf has a text of its own under NAME; its lines follow |
