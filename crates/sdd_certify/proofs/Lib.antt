@@ -1,0 +1,3 @@
+mod All
+pub mod FirstFaults
+pub mod PlacesFound

@@ -1,0 +1,10 @@
+pub mod Certificate
+pub mod Complete
+pub mod Due
+pub mod Examples
+pub mod Findings
+pub mod Kept
+pub mod Places
+pub mod Skipping
+pub mod Strict
+pub mod Told

@@ -1,0 +1,22 @@
+//! Certifying a report, whoever wrote it: whether its order is serializable, names all whose commit is
+//! told, and keeps what was over before what began later.
+//!
+//! The one contract to the layer above: `certify` gives exactly the text of `specs/Certificate.antt`.
+//! What its lines mean stands in laws: a report is complete, and strict, exactly where
+//! `specs/Kept.antt` says so (`law_complete`, `law_strict`).
+#![tactic(auto)]
+
+mod bytes;
+mod certificate;
+mod complete;
+mod due;
+mod finding;
+mod laws;
+mod lines;
+mod names;
+mod replies;
+mod strict;
+mod words;
+
+pub use certificate::certify;
+pub use laws::{law_complete, law_strict};
