@@ -8,3 +8,5 @@ pub mod Places
 pub mod Skipping
 pub mod Strict
 pub mod Told
+pub use Rattle.sdd_script.specs as script
+pub use Rattle.sdd_verify.specs as verifying

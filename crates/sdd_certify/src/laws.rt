@@ -1,9 +1,16 @@
 //! What the lines of a certificate mean.
-ghost use Rattle.std.specs.Prelude.{ℕ, ◌≡◌, List};
+ghost use Rattle.std.specs.Prelude.{ℕ, ◌≡◌, ◌-◌, List, Some, slice_get, take};
 ghost use Rattle.sdd_certify.specs.Complete.{complete};
+ghost use Rattle.sdd_certify.specs.Due.{due};
 ghost use Rattle.sdd_certify.specs.Kept.{IsComplete, IsStrict};
 ghost use Rattle.sdd_certify.specs.Strict.{strict};
+ghost use Rattle.sdd_certify.specs.declared.due.Due.TheVariants.{Line};
 ghost use Rattle.sdd_certify.specs.declared.finding.Finding.TheVariants.{Yes};
+ghost use Rattle.sdd_script.specs.All.{Catalogue, IsValid};
+ghost use Rattle.sdd_script.specs.declared.workload.Workload.{Workload};
+ghost use Rattle.sdd_verify.specs.Lines.{lines_of};
+ghost use Rattle.sdd_verify.specs.Verified.{IsVerified};
+ghost use Rattle.sdd_verify.specs.declared.verdict.Verdict.TheVariants as verdicts;
 
 /// A report is found complete exactly where its order names each transaction whose commit is told
 /// before the order line.
@@ -17,4 +24,13 @@ pub fn law_complete()
 pub fn law_strict()
     ensures strict { (report : List ℕ) → strict report ≡ Yes → IsStrict report }
     ensures yes { (report : List ℕ) → IsStrict report → strict report ≡ Yes }
+{}
+
+/// The line that is due at the line with a number stands there in each report that is verified and has
+/// the same lines before it.
+pub fn law_expected()
+    ensures line { (catalogue : Catalogue) (work : Workload) (report other line : List ℕ) (number : ℕ)
+        → IsValid catalogue work → due catalogue work report (verdicts.No number) ≡ Line line
+        → IsVerified catalogue work other → take (number - 1) (lines_of report) ≡ take (number - 1) (lines_of other)
+        → slice_get (lines_of other) (number - 1) ≡ Some line }
 {}

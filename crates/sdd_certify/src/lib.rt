@@ -3,7 +3,8 @@
 //!
 //! The one contract to the layer above: `certify` gives exactly the text of `specs/Certificate.antt`.
 //! What its lines mean stands in laws: a report is complete, and strict, exactly where
-//! `specs/Kept.antt` says so (`law_complete`, `law_strict`).
+//! `specs/Kept.antt` says so (`law_complete`, `law_strict`); a line that is expected stands in each
+//! report that is verified and has the same lines before it (`law_expected`).
 #![tactic(auto)]
 
 mod bytes;
@@ -19,4 +20,8 @@ mod strict;
 mod words;
 
 pub use certificate::certify;
-pub use laws::{law_complete, law_strict};
+pub use laws::{law_complete, law_expected, law_strict};
+
+// What lies below, for the crates above.
+pub use sdd_script::Workload;
+pub use sdd_verify::MAX_REPORT_BYTES;

@@ -70,17 +70,22 @@ impl<'a> OrderNames<'a> {
         Ok(OrderNames { names, places })
     }
 
+    /// The place of this name, counted from 1.
+    fn find_place(&self, alloc: Global, name: &[u8]) -> Result<Option<usize>, NoMemory>
+        ensures { IfOk result (λ found. found ≡ place_in self.now name.now) }
+    {
+        let _ = &self.names;
+        let name = copied(alloc, name)?;
+        Ok(self.places.get(&name).copied())
+    }
+
     /// The place of the transaction of this name, counted from 1; 0 where it doesn't stand in the
     /// order, or there is no name. Costs a logarithmic step.
     pub(crate) fn place_of(&self, alloc: Global, name: Option<&[u8]>) -> Result<usize, NoMemory>
         ensures { IfOk result (λ place. place ≡ place_of self.now (option_copied name.entry)) }
     {
-        let _ = &self.names;
         match name {
-            Some(name) => {
-                let name = copied(alloc, name)?;
-                Ok(self.places.get(&name).copied().unwrap_or(0))
-            }
+            Some(name) => Ok(self.find_place(alloc, name)?.unwrap_or(0)),
             None => Ok(0),
         }
     }
