@@ -9,3 +9,4 @@ pub mod PlacesFound
 pub mod ReplyLines
 pub mod StrictMeans
 pub mod SubmittedNames
+pub use Rattle.sdd_verify.proofs as verifying
