@@ -3,6 +3,7 @@ pub use Rattle.sdd_certify.specs.Complete.{complete, missing, missing_on}
 pub use Rattle.sdd_certify.specs.Due.{due_behind, due_lines, line_or_end, txn_named, txns_named}
 pub use Rattle.sdd_certify.specs.Findings.{LineRule, at_or, before_order, finding, first_behind, first_fault, found_by, order_in}
 pub use Rattle.sdd_certify.specs.Kept.{HasOrder, IsComplete, IsStrict, StandsBefore, line_at}
+pub use Rattle.sdd_certify.specs.Pieces.{GoesOn, ServesBoth, left_by, txns_along}
 pub use Rattle.sdd_certify.specs.Places.{name_at, place_in, place_of}
 pub use Rattle.sdd_certify.specs.Skipping.{IsSkipped}
 pub use Rattle.sdd_certify.specs.Strict.{last_committed, late_behind, late_on, strict}
@@ -15,7 +16,8 @@ pub use Rattle.sdd_report.specs.Names.{txn_name}
 pub use Rattle.sdd_report.specs.Replies.{reply_lines}
 pub use Rattle.sdd_script.proofs.base.ReadingLaws.{bind_ok, must_ok, ok_is}
 pub use Rattle.sdd_script.proofs.words.Spelled.{cut_takes, first_line as line_behind}
-pub use Rattle.sdd_script.specs.All.{AreLines, Catalogue, Database, Event, FitsTxn, HasNoNewline, IsValid, IsValidTxn, Kept, Reply, Submit, Txn, TxnNo, after_changes, along, cut_lines, database_of, effect, must, or_else, repeats, require, spelled_lines, ◌>>=◌}
+pub use Rattle.sdd_script.specs.All.{AreLines, Catalogue, Database, Event, FitsTxn, HasNoNewline, IsValid, IsValidTxn, Kept, Reply, Submit, Txn, TxnNo, after_changes, along, cut_lines, database_of, effect, must, or_else, repeats, require, serial, spelled_lines, ◌>>=◌}
+pub use Rattle.sdd_script.specs.lang.Serial.{after_reply}
 pub use Rattle.sdd_script.specs.declared.workload.Workload.{Workload}
 pub use Rattle.sdd_verify.proofs.LineCuts.{IsWhole, cut_are_lines, lines_behind, whole_behind}
 pub use Rattle.sdd_verify.proofs.LinesFound.{FirstOrder, IsOther, first_order, front_lines, order_again, rest_lines, spelled_apart}
@@ -24,7 +26,7 @@ pub use Rattle.sdd_verify.proofs.Submissions.{filter_map_more, lent_fit, rows_fi
 pub use Rattle.sdd_verify.specs.Classes.{classes_submitted}
 pub use Rattle.sdd_verify.specs.Lines.{Numbered, ends_replies, is_order_line, lines_of, numbered_lines, order_line_in, passed, tells_reply}
 pub use Rattle.sdd_verify.specs.Orders.{is_in_turn, names_on, order_on, words_of}
-pub use Rattle.sdd_verify.specs.Replies.{replies_on, serial_replies}
+pub use Rattle.sdd_verify.specs.Replies.{replies, replies_on, serial_replies}
 pub use Rattle.sdd_verify.specs.Submitted.{named, submitted, submitted_by, texts_of, txn_of}
 pub use Rattle.sdd_verify.specs.Verdict.{judged, verdict, verdict_of}
 pub use Rattle.sdd_verify.specs.Verified.{IsVerified}

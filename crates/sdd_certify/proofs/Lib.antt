@@ -2,6 +2,7 @@ mod All
 pub mod CompleteMeans
 pub mod ExpectedLine
 pub mod FirstFaults
+pub mod InParts
 pub mod NamedTxns
 pub mod NoFault
 pub mod OrderFound

@@ -4,6 +4,7 @@ pub mod Due
 pub mod Examples
 pub mod Findings
 pub mod Kept
+pub mod Pieces
 pub mod Places
 pub mod Skipping
 pub mod Strict

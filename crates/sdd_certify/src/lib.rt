@@ -15,12 +15,14 @@ mod finding;
 mod laws;
 mod lines;
 mod names;
+mod pieces;
 mod replies;
 mod strict;
 mod words;
 
 pub use certificate::certify;
 pub use laws::{law_complete, law_expected, law_strict};
+pub use pieces::{law_in_parts, law_two_reports};
 
 // What lies below, for the crates above.
 pub use sdd_script::Workload;
