@@ -5,6 +5,7 @@ use crate::case::{Case, Taking};
 use crate::text::Text;
 use anyhow::{Result, anyhow};
 use sdd_app::run_sdd1;
+use sdd_app_ask::run_ask;
 use sdd_base::{Bytes, CallNos, Files, MemShelf, MemSink, ShelfFile};
 use sdd_shell::Status;
 use std::alloc::Global;
@@ -38,13 +39,26 @@ impl Answer {
     }
 }
 
-/// Makes the call.
+/// Whether the words are for the program for questions.
+fn are_asked(words: &[String]) -> bool {
+    match words {
+        [word, ..] => matches!(word.as_str(), "robust" | "needs" | "certify"),
+        [] => false,
+    }
+}
+
+/// Makes the call, of the program that the words are for.
 pub fn call(alloc: Global, case: &Case, run: Run<'_>) -> Result<Answer> {
     let files = files(alloc, case.files.as_slice(), run.cut)?;
     let mut shelf = MemShelf::new(files, case.reads.max(1), calls(alloc, run.shelf_fails)?);
     let mut out = sink(alloc, case.out, run.out_fails)?;
     let mut err = sink(alloc, case.err, case.err.fails)?;
-    let status = run_sdd1(alloc, case.words.as_slice(), &mut shelf, &mut out, &mut err);
+    let words = case.words.as_slice();
+    let status = if are_asked(words) {
+        run_ask(alloc, words, &mut shelf, &mut out, &mut err)
+    } else {
+        run_sdd1(alloc, words, &mut shelf, &mut out, &mut err)
+    };
     Ok(Answer { status, out, err })
 }
 

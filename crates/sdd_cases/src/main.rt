@@ -1,4 +1,5 @@
-//! Runs the cases of its standard input through the top call, and prints what each answers.
+//! Runs the cases of its standard input through the top call, or through that of the program for
+//! questions where the words begin with `robust`, `needs` or `certify`, and prints what each answers.
 //!
 //! What is expected stands in `stdout`, made elsewhere. The input is text, line by line; blank
 //! lines and lines that begin with `#` are skipped.
