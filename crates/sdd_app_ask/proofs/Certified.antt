@@ -1,5 +1,6 @@
 -- What the form `certify` comes to, from what was read of its files.
-use Rattle.std.proofs.Common.{Err, List, Ok, Result, Some, codes, false, length, lt-leb, nat_le, refl, subst, sym, ℕ, ◌++◌, ◌<◌, ◌∙◌, ◌≡◌}
+use Rattle.std.proofs.Common.{Err, List, Ok, Result, Some, codes, false, length, nat_le, refl, subst, sym, ℕ, ◌++◌, ◌<◌, ◌∙◌, ◌≡◌}
+use Rattle.std.proofs.lemmas.Bool.{lt-leb}
 use Rattle.sdd_lang.specs.base.declared.files.ShelfFile.{ShelfFile}
 use Rattle.sdd_lang.specs.All.{Catalogue}
 use Rattle.sdd_certify.specs.Certificate.{finding_lines, serializable_lines}

@@ -1,5 +1,5 @@
 -- The form that words have, and what a call comes to.
-use Rattle.std.proofs.Common.{Bool, Err, IfErr, IsSome, List, None, Ok, Option, Result, Some, [], ap, bytes_eq, codes, cond, false, refl, subst, true, ℕ, ◌∙◌, ◌∷◌, ◌≡◌}
+use Rattle.std.proofs.Common.{Bool, Err, IfErr, IsSome, List, None, Ok, Option, Result, Some, [], ap, bytes_eq, codes, cond, false, refl, true, ℕ, ◌∙◌, ◌∷◌, ◌≡◌}
 use Rattle.std.specs.Option.{option_map}
 use Rattle.sdd_lang.specs.base.Outside.{find_file}
 use Rattle.sdd_lang.specs.base.declared.files.ShelfFile.{ShelfFile}
@@ -11,7 +11,7 @@ use Rattle.std.proofs.lemmas.Slice.Eq.{bytes_eq-Decides}
 use Rattle.sdd_shell.proofs.AtFault.{at_more}
 use Rattle.sdd_shell.proofs.Calls.{IsDecided}
 use Rattle.sdd_shell.proofs.Verdicts.{one_over, one_over_work, over_at, over_there, over_work_at, over_work_there}
-use Rattle.sdd_app_ask.specs.Asking.{Ask, Certify, ComesToAnswer, FilesOf, Form, FormComesTo, IsNoForm, ask_call, form_in, word_of, words_of}
+use Rattle.sdd_app_ask.specs.Asking.{Ask, Certify, ComesToAnswer, FilesOf, Form, FormComesTo, IsNoForm, ask_call, form_in, words_of}
 use Rattle.sdd_app_ask.specs.Certifying.{ComesToCertificate, ComesToCertify, certified_as}
 use Rattle.sdd_app_ask.specs.declared.asking.Question.{Question}
 use Rattle.sdd_app_ask.specs.declared.asking.Question.TheVariants.{Needs, Robust}

@@ -1,11 +1,11 @@
 -- What lines of a trace tell of commits.
-use Rattle.std.proofs.Common.{All, Bool, Contains, List, None, Option, Some, [], ap, append-nil, arith, bytes_eq, codes, cond, false, length, list_all, nat_eq as eqb, ne_eqb, position_or_len, refl, rules, slice_get, slice_index_or as get_or, subst, suc, sym, take, true, zero, ℕ, ◌%◌, ◌++◌, ◌+◌, ◌-◌, ◌/◌, ◌<◌, ◌==◌, ◌∙◌, ◌∷◌, ◌≡◌}
+use Rattle.std.proofs.Common.{All, List, None, Option, Some, [], ap, arith, bytes_eq, codes, cond, false, nat_eq as eqb, ne_eqb, refl, rules, suc, true, zero, ℕ, ◌%◌, ◌++◌, ◌+◌, ◌-◌, ◌/◌, ◌==◌, ◌∷◌, ◌≡◌}
 use Rattle.std.proofs.lemmas.List.Elements.{All-cons, All-head, All-nil, All-tail}
 use Rattle.std.proofs.lemmas.List.Splits.{slice_split_at, slice_split_none}
 use Rattle.std.specs.Fmt.{decimal, digit_glyph, digits, digits_onto}
 use Rattle.sdd_certify.specs.Told.{commit_on, name_in, named_behind}
 use Rattle.sdd_certify.specs.verifying.Orders.{words_of}
-use Rattle.sdd_obligations.specs.All.{Catalogue, History, IsRecordAt, Rec, Txn, TxnNo, txn_no}
+use Rattle.sdd_obligations.specs.All.{Catalogue, Rec, Txn}
 use Rattle.sdd_obligations.specs.history.declared.record.Rec.TheVariants as records
 use Rattle.sdd_verified.specs.report.Names.{attempt_word, class_time, class_word, module_word, spaced, txn_name}
 use Rattle.sdd_verified.specs.report.Trace.{cond_words, record_words, time_word}

@@ -1,6 +1,9 @@
 -- Names have no byte that no name has: no space, no newline, no `#`.
-use Rattle.std.proofs.Common.{All, All-cons, All-nil, Bool, List, None, Option, Some, [], ap, arith, codes, cond, false, list_all, nat_eq as eqb, nat_le, ne_eqb, option_map_or, refl, slice_get, subst, sym, true, ℕ, ◌&&◌, ◌-◌, ◌∷◌, ◌≡◌, ◌≢◌}
+use Rattle.std.proofs.Common.{All, List, None, Option, Some, [], ap, arith, false, nat_eq as eqb, nat_le, ne_eqb, refl, slice_get, true, ℕ, ◌-◌, ◌∷◌, ◌≡◌, ◌≢◌}
 use Rattle.std.proofs.lemmas.Bool.Decides.{nat_tests}
+use Rattle.std.proofs.lemmas.List.Elements.{All-cons, All-nil}
+use Rattle.std.specs.List.{list_all}
+use Rattle.std.specs.Option.{option_map_or}
 use Rattle.sdd_verified.specs.report.Names.{txn_name}
 use Rattle.sdd_verified.specs.script.All.{HasNoSpace, IsName, Txn, begins_with_letter, is_keyword, is_name_byte}
 use Rattle.sdd_verified.proofs.script.words.Numbers.{both}

@@ -1,7 +1,7 @@
 -- The report on a run is complete.
-use Rattle.std.proofs.Common.{All, Contains, List, None, Option, Some, [], ap, append_assoc, arith, codes, flat_map, length, option_map, refl, rules, slice_get, slice_index_or as get_or, subst, suc, sym, zero, ℕ, ◌++◌, ◌-◌, ◌<◌, ◌∙◌, ◌∷◌, ◌≡◌, ◌≤◌}
+use Rattle.std.proofs.Common.{All, Contains, List, Some, [], ap, append_assoc, arith, codes, flat_map, length, option_map, refl, rules, slice_get, slice_index_or as get_or, subst, suc, sym, zero, ℕ, ◌++◌, ◌-◌, ◌<◌, ◌∙◌, ◌∷◌, ◌≡◌, ◌≤◌}
 use Rattle.sdd_certify.specs.Complete.{complete}
-use Rattle.sdd_certify.specs.Kept.{HasOrder, IsComplete}
+use Rattle.sdd_certify.specs.Kept.{HasOrder}
 use Rattle.sdd_certify.specs.Told.{commit_on}
 use Rattle.sdd_certify.specs.declared.finding.Finding.TheVariants.{Yes}
 use Rattle.sdd_certify.specs.verifying.Orders.{names_on}
@@ -9,7 +9,7 @@ use Rattle.sdd_certify.specs.verifying.declared.limits.TheConstants.{MAX_REPORT_
 use Rattle.sdd_certify.proofs.CompleteMeans.{complete_again}
 use Rattle.sdd_certify.proofs.verifying.Submissions.{some_is}
 use Rattle.sdd_certify.proofs.verifying.OrderWords.{HaveNoSpace, is_order_line_again, names_again}
-use Rattle.sdd_obligations.specs.All.{Attempt, Catalogue, Commit, Committed, History, IsAttempt, IsCommitted, IsRecordAt, IsSoundCatalogue, Rec, Reply, Txn, TxnNo, history, txn_no}
+use Rattle.sdd_obligations.specs.All.{Catalogue, Commit, Committed, History, IsCommitted, IsRecordAt, Rec, Txn, TxnNo, history, txn_no}
 use Rattle.sdd_obligations.specs.catalog.Naming.{AreNamed}
 use Rattle.sdd_obligations.specs.history.declared.record.Rec.TheVariants as records
 use Rattle.sdd_obligations.specs.serial_orders.Attempts.{HasCommit}
@@ -20,7 +20,7 @@ use Rattle.sdd_verified.specs.report.Committed.{names_of, order_line}
 use Rattle.sdd_verified.specs.report.Names.{spaced, txn_name}
 use Rattle.sdd_verified.specs.report.Replies.{replies_along}
 use Rattle.sdd_verified.specs.report.Report.{after_replies}
-use Rattle.sdd_verified.specs.script.All.{HasNoNewline, IsName, IsValid, spelled_lines}
+use Rattle.sdd_verified.specs.script.All.{IsName, IsValid, spelled_lines}
 use Rattle.sdd_verified.specs.script.declared.workload.Workload.{Workload}
 use Rattle.sdd_verified.proofs.script.WordLooks.{no_newline-append}
 use Rattle.sdd_verified.proofs.CleanWords.{names_are, spaced_names}

@@ -31,7 +31,7 @@ pub use Rattle.sdd_verify.specs.Submitted.{named, submitted, submitted_by, texts
 pub use Rattle.sdd_verify.specs.Verdict.{judged, verdict, verdict_of}
 pub use Rattle.sdd_verify.specs.Verified.{IsVerified}
 pub use Rattle.sdd_verify.specs.declared.limits.TheConstants.{MAX_REPORT_BYTES}
-pub use Rattle.std.proofs.Common.{All, Bool, Bor, Contains, Err, IsTrue, List, None, Ok, Option, Result, Some, [], ap, append-nil, append_assoc, arith, bytes_eq, cond, drop, eqb-true, false, filter_map, find, fold, inl, inr, is_some, le-leb, leb-false, leb-true, length, length-append, length-take-le, list_any, lt-ltb, ltb-false, ltb-true, map, max, nat_cmp, nat_eq as eqb, nat_le, nat_lt, ne_eqb, position_from, refl, rules, slice_get, slice_index_or as get_or, subst, suc, sym, take, take-append-drop, true, unwrap_or, zero, ℕ, ◌&&◌, ◌++◌, ◌+◌, ◌-◌, ◌<◌, ◌||◌, ◌∙◌, ◌∷◌, ◌≡◌, ◌≢◌, ◌≤◌, ◌⊎◌}
+pub use Rattle.std.proofs.Common.{All, Bool, Bor, Contains, Err, IsTrue, List, None, Ok, Option, Result, Some, [], ap, append-nil, append_assoc, arith, bytes_eq, cond, drop, eqb-true, false, filter_map, find, fold, inl, inr, is_some, le-leb, leb-false, leb-true, length, length-append, length-take-le, lt-ltb, ltb-false, ltb-true, map, max, nat_cmp, nat_eq as eqb, nat_le, nat_lt, ne_eqb, refl, rules, slice_get, slice_index_or as get_or, subst, suc, sym, take, take-append-drop, true, unwrap_or, zero, ℕ, ◌&&◌, ◌++◌, ◌+◌, ◌-◌, ◌<◌, ◌||◌, ◌∙◌, ◌∷◌, ◌≡◌, ◌≢◌, ◌≤◌, ◌⊎◌}
 pub use Rattle.std.proofs.lemmas.Bool.{cases_Bool, cases_eq}
 pub use Rattle.std.proofs.lemmas.Bool.Decides.{nat_tests}
 pub use Rattle.std.proofs.lemmas.List.{drop_all, drop_more, length-map, map-append, take_more}
@@ -41,3 +41,4 @@ pub use Rattle.std.proofs.lemmas.Result.{err_from_is_err_and}
 pub use Rattle.std.proofs.lemmas.Slice.Eq.{bytes_eq-Decides}
 pub use Rattle.std.specs.BTreeMap.{get, is_at}
 pub use Rattle.std.specs.Cmp.Lexicographic.{slice_cmp}
+pub use Rattle.std.specs.List.{list_any, position_from}

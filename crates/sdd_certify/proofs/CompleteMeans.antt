@@ -1,5 +1,5 @@
 -- A report is found complete exactly where it is complete.
-use Rattle.sdd_certify.proofs.All.{Bool, Contains, IsComplete, List, None, Option, Some, Yes, [], ap, arith, bytes_eq, bytes_eq-Decides, commit_on, complete, cond, eqb, false, first_fault, get_or, length, missing, missing_on, names_on, place_in, position_from, refl, some_is, subst, suc, sym, true, unwrap_or, zero, ℕ, ◌+◌, ◌<◌, ◌∙◌, ◌∷◌, ◌≡◌, ◌≢◌, ◌≤◌}
+use Rattle.sdd_certify.proofs.All.{Bool, Contains, IsComplete, List, None, Option, Some, Yes, [], ap, arith, bytes_eq, bytes_eq-Decides, commit_on, complete, cond, eqb, false, get_or, length, missing, missing_on, names_on, ne_eqb, place_in, position_from, refl, some_is, suc, sym, true, unwrap_or, zero, ℕ, ◌+◌, ◌<◌, ◌∙◌, ◌∷◌, ◌≡◌, ◌≤◌}
 use Rattle.sdd_certify.proofs.NoFault.{all_none, none_found}
 use Rattle.sdd_certify.proofs.OrderFound.{order_found, yes_order}
 use Rattle.std.proofs.lemmas.List.Elements.{Contains-get_or}
@@ -13,15 +13,16 @@ record HasPlace (first : ℕ) (name : List ℕ) (names : List (List ℕ)) (place
 place_there : (first : ℕ) (name : List ℕ) (names : List (List ℕ)) (place : ℕ) → position_from (bytes_eq name) first names ≡ Some place
     → HasPlace first name names place
 place_there first name [] place e = absurd cc
-place_there first name (other ∷ names) place e = by_test (bytes_eq name other) refl e
+place_there first name (other ∷ names) place e = by_test (bytes_eq name other) refl (λ more. place_there (first + 1) name names place more) e
   where
-    by_test : (b : Bool) → bytes_eq name other ≡ b → cond b (Some first) (position_from (bytes_eq name) (first + 1) names) ≡ Some place
-        → HasPlace first name (other ∷ names) place
-    by_test true is e =
+    by_test : (b : Bool) → bytes_eq name other ≡ b
+        → (position_from (bytes_eq name) (first + 1) names ≡ Some place → HasPlace (first + 1) name names place)
+        → cond b (Some first) (position_from (bytes_eq name) (first + 1) names) ≡ Some place → HasPlace first name (other ∷ names) place
+    by_test true is later e =
         let same : first ≡ place = some_is first place e in
         record { from = omega (arith, same); there = (0, omega arith, sym ((bytes_eq-Decides name other).0 is)) }
-    by_test false is e =
-        let more = place_there (first + 1) name names place e in
+    by_test false is later e =
+        let more = later e in
         let from = more.from in
         let k : ℕ = more.there.0 in
         let lt : k < length names = more.there.1 in
@@ -29,15 +30,17 @@ place_there first name (other ∷ names) place e = by_test (bytes_eq name other)
 
 there_placed : (first : ℕ) (name : List ℕ) (names : List (List ℕ)) → position_from (bytes_eq name) first names ≡ None → Contains names name → ⊥
 there_placed first name [] e has = let lt = has.1 in omega (arith, lt)
-there_placed first name (other ∷ names) e has = by_test (bytes_eq name other) refl e has.0 has.1 has.2
+there_placed first name (other ∷ names) e has =
+    by_test (bytes_eq name other) refl (λ none there. there_placed (first + 1) name names none there) e has.0 has.1 has.2
   where
-    by_test : (b : Bool) → bytes_eq name other ≡ b → cond b (Some first) (position_from (bytes_eq name) (first + 1) names) ≡ None
+    by_test : (b : Bool) → bytes_eq name other ≡ b → (position_from (bytes_eq name) (first + 1) names ≡ None → Contains names name → ⊥)
+        → cond b (Some first) (position_from (bytes_eq name) (first + 1) names) ≡ None
         → (k : ℕ) → k < length (other ∷ names) → get_or (other ∷ names) k name ≡ name → ⊥
-    by_test true is e k lt at = absurd cc
-    by_test false is e zero lt at =
+    by_test true is later e k lt at = absurd cc
+    by_test false is later e zero lt at =
         let yes : bytes_eq name other ≡ true = (bytes_eq-Decides name other).1 (sym at) in
         absurd cc
-    by_test false is e (suc k) lt at = there_placed (first + 1) name names e (k, omega (arith, lt), at)
+    by_test false is later e (suc k) lt at = later e (k, omega (arith, lt), at)
 
 -- no name is missing
 
@@ -50,7 +53,9 @@ placed_by : (names : List (List ℕ)) (name : List ℕ) (o : Option ℕ) → pla
     → cond (eqb (unwrap_or o 0) 0) (Some name) None ≡ None
 placed_by names name None e has = absurd (there_placed 1 name names e has)
 placed_by names name (Some zero) e has = let from = (place_there 1 name names 0 e).from in absurd (omega (arith, from))
-placed_by names name (Some (suc place)) e has = refl
+placed_by names name (Some (suc place)) e has =
+    let some : eqb (suc place) 0 ≡ false = ne_eqb (suc place) 0 (λ same. omega (arith, same)) in
+    ap (λ b. cond b (Some name) None) some
 
 none_missing : (names : List (List ℕ)) (committed : Option (List ℕ)) → ((name : List ℕ) → committed ≡ Some name → Contains names name)
     → missing names committed ≡ None

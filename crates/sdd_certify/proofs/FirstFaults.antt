@@ -1,5 +1,5 @@
 -- The first line at fault, one line more.
-use Rattle.sdd_certify.proofs.All.{Finding, LineRule, List, None, Option, Some, At, Yes, [], append-nil, arith, at_or, commit_on, drop, first_behind, first_fault, fold, last_committed, length, map, map-append, max, nat_tests, place_of, refl, suc, take, zero, ℕ, ◌++◌, ◌+◌, ◌∷◌, ◌≡◌}
+use Rattle.sdd_certify.proofs.All.{At, Finding, LineRule, List, None, Some, Yes, [], ap, arith, commit_on, drop, first_behind, fold, last_committed, length, map, map-append, max, place_of, refl, subst, suc, take, zero, ℕ, ◌++◌, ◌+◌, ◌∙◌, ◌∷◌, ◌≡◌}
 
 -- the list about the place where this member stands
 pub record Split {A : Type 0} (i : ℕ) (all : List A) (x : A) (rest : List A) : Type 0 where
@@ -9,9 +9,20 @@ pub record Split {A : Type 0} (i : ℕ) (all : List A) (x : A) (rest : List A) :
 
 pub split_at : {A : Type 0} (i : ℕ) (all : List A) (x : A) (rest : List A) → drop i all ≡ x ∷ rest → Split i all x rest
 split_at zero [] x rest e = absurd cc
-split_at zero (y ∷ all) x rest e = grind (arith, nat_tests)
+split_at zero (y ∷ all) x rest e =
+    let same : y ≡ x = cc in
+    let others : all ≡ rest = cc in
+    record { up_to = ap (λ z. z ∷ []) same; behind = others; count = refl }
 split_at (suc i) [] x rest e = absurd cc
-split_at (suc i) (y ∷ all) x rest e = let more = split_at i all x rest e in grind (arith, nat_tests, more.up_to, more.behind, more.count)
+split_at {A} (suc i) (y ∷ all) x rest e =
+    let more = split_at i all x rest e in
+    let count = more.count in
+    let next : suc i + 1 ≡ suc (i + 1) = omega arith in
+    record {
+      up_to = rw next (ap (λ (l : List A). y ∷ l) more.up_to);
+      behind = rw next more.behind;
+      count = omega (arith, count);
+    }
 
 -- where a line isn't at fault
 pub goes_on : (rule : LineRule) (all : List (List ℕ)) (i : ℕ) (line : List ℕ) (rest : List (List ℕ)) (total : Finding)
@@ -32,7 +43,7 @@ stops rule all i line rest name total e some so_far =
     let count = s.count in
     let here = rw e at so_far in
     let found = rw some at here in
-    rw (← count) found
+    subst (λ n. At (n + 1) name ≡ total) count found
 
 -- where no line is left
 pub none_left : (rule : LineRule) (all : List (List ℕ)) (i : ℕ) (total : Finding) → drop i all ≡ [] → first_behind rule (take i all) (drop i all) ≡ total → Yes ≡ total
@@ -47,4 +58,4 @@ pub last_more : (names lines : List (List ℕ)) (line : List ℕ)
     → last_committed names (lines ++ line ∷ []) ≡ max (last_committed names lines) (place_of names (commit_on line))
 last_more names lines line =
     let place : List ℕ → ℕ = λ l. place_of names (commit_on l) in
-    rw (map-append place lines (line ∷ [])) (fold_more 0 (map place lines) (place line))
+    ap (λ (places : List ℕ). fold max 0 places) (map-append place lines (line ∷ [])) ∙ fold_more 0 (map place lines) (place line)

@@ -9,20 +9,20 @@ names_more txns names i d within = filter_map_more (txn_named txns) names i d wi
 -- what is found has what each member has
 found_has : {A : Type 0} (test : A → Bool) (P : A → Type 0) (xs : List A) (x : A) → All P xs → find test xs ≡ Some x → P x
 found_has test P [] x all e = absurd cc
-found_has {A} test P (y ∷ xs) x all e = by_test (test y) refl e
+found_has {A} test P (y ∷ xs) x all e = by_test (test y) (λ more. found_has test P xs x (All-tail P y xs all) more) e
   where
-    by_test : (b : Bool) → test y ≡ b → cond b (Some y) (find test xs) ≡ Some x → P x
-    by_test true is e = subst P (some_is y x e) (All-head P y xs all)
-    by_test false is e = found_has test P xs x (All-tail P y xs all) e
+    by_test : (b : Bool) → (find test xs ≡ Some x → P x) → cond b (Some y) (find test xs) ≡ Some x → P x
+    by_test true later e = subst P (some_is y x e) (All-head P y xs all)
+    by_test false later e = later e
 
 -- and so have all that are found
 all_given : {A B : Type 0} (f : A → Option B) (P : B → Type 0) (xs : List A) → ((x : A) (y : B) → f x ≡ Some y → P y) → All P (filter_map f xs)
 all_given f P [] each = All-nil P
-all_given {A} {B} f P (x ∷ xs) each = by_found (f x) refl
+all_given {A} {B} f P (x ∷ xs) each = by_found (f x) refl (all_given f P xs each)
   where
-    by_found : (o : Option B) → f x ≡ o → All P (filter_map f (x ∷ xs))
-    by_found None is = rw is (all_given f P xs each)
-    by_found (Some y) is = rw is (All-cons P y (filter_map f xs) (each x y is) (all_given f P xs each))
+    by_found : (o : Option B) → f x ≡ o → All P (filter_map f xs) → All P (filter_map f (x ∷ xs))
+    by_found None is more = rw is more
+    by_found (Some y) is more = rw is (All-cons P y (filter_map f xs) (each x y is) more)
 
 all_fit : (cat : Catalogue) (work : Workload) → IsValid cat work → All (FitsTxn cat) work.txns
 all_fit cat work valid = fits work.txns valid.txns

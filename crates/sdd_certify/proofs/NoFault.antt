@@ -1,5 +1,5 @@
 -- No line is at fault exactly where the rule finds nothing at each.
-use Rattle.sdd_certify.proofs.All.{Finding, LineRule, List, None, Option, Some, Yes, [], ap, append-nil, append_assoc, arith, at_or, first_behind, get_or, length, refl, subst, suc, sym, take, zero, ℕ, ◌++◌, ◌+◌, ◌<◌, ◌∙◌, ◌∷◌, ◌≡◌}
+use Rattle.sdd_certify.proofs.All.{Finding, LineRule, List, None, Option, Some, Yes, [], ap, append-nil, append_assoc, arith, at_or, first_behind, get_or, length, refl, suc, sym, take, zero, ℕ, ◌++◌, ◌+◌, ◌<◌, ◌∙◌, ◌∷◌, ◌≡◌}
 
 -- a line that isn't at fault
 record Passed (o : Option (List ℕ)) (other : Finding) : Type 0 where

@@ -1,12 +1,16 @@
 -- The first order line of a report, and the lines before it.
-use Rattle.sdd_certify.proofs.All.{All, All-head, All-tail, AreLines, Bool, Err, Finding, FirstOrder, HasOrder, IsOther, LineRule, List, MAX_REPORT_BYTES, Numbered, Ok, Result, Yes, [], ap, append_assoc, arith, before_order, cond, cut_are_lines, cut_lines, cut_takes, false, finding, first_fault, first_order, found_by, front_lines, is_order_line, le-leb, leb-true, length, line_behind, lines_behind, lines_of, names_on, nat_le, order_again, order_in, order_line_in, refl, rest_lines, spelled_apart, spelled_lines, subst, sym, true, ℕ, ◌++◌, ◌+◌, ◌>>=◌, ◌∙◌, ◌∷◌, ◌≡◌, ◌≤◌}
+use Rattle.sdd_certify.proofs.All.{All, All-head, All-tail, AreLines, Bool, Err, Finding, FirstOrder, HasOrder, IsOther, LineRule, List, MAX_REPORT_BYTES, Numbered, Ok, Result, Yes, [], ap, append_assoc, before_order, cond, cut_are_lines, cut_lines, cut_takes, false, finding, first_fault, first_order, found_by, front_lines, is_order_line, le-leb, leb-true, length, line_behind, lines_behind, lines_of, names_on, nat_le, order_again, order_in, order_line_in, refl, rest_lines, spelled_apart, spelled_lines, subst, sym, true, ℕ, ◌++◌, ◌+◌, ◌>>=◌, ◌∙◌, ◌∷◌, ◌≡◌, ◌≤◌}
 
 abbrev At : Type 0
 At = ℕ × List ℕ × Numbered
 
 -- a report with an order isn't too long
+
+abbrev begun_if : Bool → List ℕ → Result Numbered ℕ
+begun_if b report = cond b (Ok (1, lines_of report)) (Err 0)
+
 small_by : (report : List ℕ) (at : At) (b : Bool) → nat_le (length report) MAX_REPORT_BYTES ≡ b
-    → (cond b (Ok (1, lines_of report)) (Err 0) >>= (λ (whole : Numbered). order_line_in whole.0 whole.1)) ≡ Ok at
+    → (begun_if b report >>= (λ (whole : Numbered). order_line_in whole.0 whole.1)) ≡ Ok at
     → (length report ≤ MAX_REPORT_BYTES) × (order_line_in 1 (lines_of report) ≡ Ok at)
 small_by report at true e h = (leb-true (length report) MAX_REPORT_BYTES e, h)
 small_by report at false e h = absurd cc

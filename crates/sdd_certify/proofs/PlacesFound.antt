@@ -1,12 +1,12 @@
 -- The place of the first of each name, one name more.
-use Rattle.sdd_certify.proofs.All.{Bor, List, None, Option, Some, [], ap, arith, bytes_eq, bytes_eq-Decides, cases_Bool, cond, false, get_or, is_at, is_eq-slice_cmp, is_some, length, length-map, length-take-le, map, map-append, nat_cmp, nat_tests, or_else, place_in, position_from, slice_cmp, subst, sym, take, take_more, true, ℕ, ◌++◌, ◌+◌, ◌<◌, ◌∙◌, ◌∷◌, ◌≡◌, ◌≤◌}
+use Rattle.sdd_certify.proofs.All.{Bor, List, None, Option, Some, [], ap, arith, bytes_eq, bytes_eq-Decides, cases_Bool, cond, false, get_or, is_at, is_eq-slice_cmp, is_some, length, length-map, length-take-le, map, map-append, nat_cmp, nat_tests, or_else, place_in, position_from, refl, slice_cmp, subst, sym, take, take_more, true, ℕ, ◌++◌, ◌+◌, ◌<◌, ◌∙◌, ◌∷◌, ◌≡◌, ◌≤◌}
 
 abbrev Here : List ℕ → ℕ → List ℕ → Option ℕ
 Here last place name = cond (bytes_eq name last) (Some place) None
 
 place_more : (first : ℕ) (names : List (List ℕ)) (last name : List ℕ)
     → position_from (bytes_eq name) first (names ++ last ∷ []) ≡ or_else (position_from (bytes_eq name) first names) (Here last (first + length names) name)
-place_more first [] last name = let none : first + 0 ≡ first = omega arith in rw none (grind (arith, nat_tests))
+place_more first [] last name = let none : first + 0 ≡ first = omega arith in rw none refl
 place_more first (other ∷ names) last name = grind (arith, nat_tests, bytes_eq, position_from, Here, (place_more (first + 1) names last name))
 
 abbrev pub Found : (List ℕ → Option ℕ) → List (List ℕ) → Type 0

@@ -1,15 +1,15 @@
 -- The line of the replies that stands behind so many, one transaction after the other.
-use Rattle.sdd_certify.proofs.All.{Bor, Catalogue, Database, IsSkipped, List, None, Option, Reply, Some, Txn, [], after_changes, ap, arith, drop, drop_all, drop_more, effect, get_or, length, lines_of, map, refl, replies_on, reply_lines, reply_whole, slice_get, suc, sym, whole_behind, zero, ℕ, ◌++◌, ◌+◌, ◌<◌, ◌∙◌, ◌∷◌, ◌≡◌, ◌≤◌}
+use Rattle.sdd_certify.proofs.All.{Bor, Catalogue, Database, List, None, Option, Reply, Some, Txn, [], after_changes, ap, arith, drop, drop_all, drop_more, effect, get_or, length, lines_of, map, refl, replies_on, reply_lines, reply_whole, slice_get, suc, sym, whole_behind, zero, ℕ, ◌++◌, ◌+◌, ◌<◌, ◌∙◌, ◌∷◌, ◌≡◌, ◌≤◌}
 use Rattle.sdd_script.specs.words.Lines.{cut_lines}
 
 -- members of lists that stand one behind the other
 
-get_front : {A : Type 0} (xs ys : List A) (k : ℕ) (x : A) → slice_get xs k ≡ Some x → slice_get (xs ++ ys) k ≡ Some x
+pub get_front : {A : Type 0} (xs ys : List A) (k : ℕ) (x : A) → slice_get xs k ≡ Some x → slice_get (xs ++ ys) k ≡ Some x
 get_front [] ys k x e = absurd cc
 get_front (y ∷ xs) ys zero x e = e
 get_front (y ∷ xs) ys (suc k) x e = get_front xs ys k x e
 
-get_behind : {A : Type 0} (xs ys : List A) (k left : ℕ) → length xs + left ≡ k → slice_get (xs ++ ys) k ≡ slice_get ys left
+pub get_behind : {A : Type 0} (xs ys : List A) (k left : ℕ) → length xs + left ≡ k → slice_get (xs ++ ys) k ≡ slice_get ys left
 get_behind [] ys k left e = let same : k ≡ left = omega (arith, e) in rw same refl
 get_behind (y ∷ xs) ys zero left e = absurd (omega (arith, e))
 get_behind (y ∷ xs) ys (suc k) left e = get_behind xs ys k left (omega (arith, e))

@@ -1,5 +1,5 @@
 -- A report is found strict exactly where it is strict.
-use Rattle.sdd_certify.proofs.All.{Bool, IsStrict, List, None, Option, Some, StandsBefore, Yes, [], ap, arith, commit_on, cond, false, first_fault, fold, get_or, last_committed, late_behind, late_on, length, line_at, lt-ltb, ltb-false, ltb-true, map, max, name_at, names_on, nat_lt, place_of, refl, strict, submission_on, subst, suc, sym, take, true, zero, ℕ, ◌&&◌, ◌<◌, ◌∙◌, ◌∷◌, ◌≡◌, ◌≢◌, ◌≤◌}
+use Rattle.sdd_certify.proofs.All.{Bool, IsStrict, List, None, Option, Some, StandsBefore, Yes, [], ap, arith, commit_on, cond, false, fold, get_or, last_committed, late_behind, late_on, length, line_at, lt-ltb, ltb-false, ltb-true, map, max, name_at, names_on, nat_lt, place_of, refl, strict, submission_on, suc, sym, take, true, zero, ℕ, ◌&&◌, ◌<◌, ◌∙◌, ◌∷◌, ◌≡◌, ◌≢◌, ◌≤◌}
 use Rattle.sdd_certify.proofs.NoFault.{all_none, none_found}
 use Rattle.sdd_certify.proofs.OrderFound.{order_found, yes_order}
 
@@ -26,15 +26,19 @@ reached : (f : List ℕ → ℕ) (lines : List (List ℕ)) (m k : ℕ) → k ≤
 reached f [] m zero within h = absurd (omega (arith, h))
 reached f [] m (suc k) within h = absurd (omega (arith, within))
 reached f (line ∷ lines) m zero within h = absurd (omega (arith, h))
-reached f (line ∷ lines) m (suc k) within h = by_test (nat_lt (max m (f line)) (fold max (max m (f line)) (map f (take k lines)))) refl
+reached f (line ∷ lines) m (suc k) within h =
+    by_test (nat_lt (max m (f line)) (fold max (max m (f line)) (map f (take k lines)))) refl
+    (λ less. reached f lines (max m (f line)) k (omega (arith, within)) less)
   where
     by_test : (b : Bool) → nat_lt (max m (f line)) (fold max (max m (f line)) (map f (take k lines))) ≡ b
+        → (max m (f line) < fold max (max m (f line)) (map f (take k lines))
+        → Reached f lines k (fold max (max m (f line)) (map f (take k lines))))
         → Reached f (line ∷ lines) (suc k) (fold max m (map f (take (suc k) (line ∷ lines))))
-    by_test true e =
-        let more = reached f lines (max m (f line)) k (omega (arith, within)) (ltb-true (max m (f line)) (fold max (max m (f line)) (map f (take k lines))) e) in
+    by_test true e later =
+        let more = later (ltb-true (max m (f line)) (fold max (max m (f line)) (map f (take k lines))) e) in
         let less = more.less in
         record { at = suc more.at; less = omega (arith, less); is = more.is }
-    by_test false e =
+    by_test false e later =
         let most = least (max m (f line)) (map f (take k lines)) in
         let not_more = ltb-false (max m (f line)) (fold max (max m (f line)) (map f (take k lines))) e in
         record { at = 0; less = omega arith; is = omega (arith, most, not_more, h) }

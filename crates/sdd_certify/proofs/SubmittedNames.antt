@@ -1,5 +1,5 @@
 -- The transactions that an order of submitted ones names are found by their names among all.
-use Rattle.sdd_certify.proofs.All.{All, All-cons, All-head, All-nil, All-tail, Bool, Catalogue, Event, IsValid, List, None, Option, Some, Submit, Txn, TxnNo, Workload, [], ap, arith, bytes_eq, bytes_eq-Decides, cases_Bool, cond, false, filter_map, find, inl, inr, length, list_any, map, refl, repeats, slice_get, some_is, submitted, submitted_by, subst, suc, sym, texts_of, true, txn_name, txn_named, txn_of, txns_named, zero, ℕ, ◌+◌, ◌-◌, ◌<◌, ◌||◌, ◌∙◌, ◌∷◌, ◌≡◌, ◌≤◌}
+use Rattle.sdd_certify.proofs.All.{All, All-cons, All-head, All-nil, All-tail, Bool, Catalogue, Event, IsValid, List, None, Option, Some, Submit, Txn, TxnNo, Workload, [], ap, arith, bytes_eq, bytes_eq-Decides, cond, false, filter_map, list_any, map, refl, repeats, slice_get, some_is, submitted, submitted_by, suc, sym, texts_of, true, txn_name, txn_named, txn_of, txns_named, zero, ℕ, ◌-◌, ◌||◌, ◌∙◌, ◌∷◌, ◌≡◌}
 use Rattle.sdd_verify.proofs.NumbersOfNames.{IsThere, member_at, name_in}
 use Rattle.sdd_verify.proofs.Submissions.{found_member}
 
@@ -10,29 +10,33 @@ names_in txns = map (λ (t : Txn). t.name) txns
 other_name : (name : List ℕ) (txns : List Txn) (i : ℕ) (t : Txn) → list_any (bytes_eq name) (names_in txns) ≡ false → slice_get txns i ≡ Some t
     → bytes_eq name t.name ≡ false
 other_name name [] i t none is = absurd cc
-other_name name (txn ∷ txns) i t none is = by_test (bytes_eq name txn.name) refl none i is
+other_name name (txn ∷ txns) i t none is = by_test (bytes_eq name txn.name) refl (λ more k there. other_name name txns k t more there) none i is
   where
-    by_test : (b : Bool) → bytes_eq name txn.name ≡ b → (b || list_any (bytes_eq name) (names_in txns)) ≡ false
+    by_test : (b : Bool) → bytes_eq name txn.name ≡ b
+        → (list_any (bytes_eq name) (names_in txns) ≡ false → (k : ℕ) → slice_get txns k ≡ Some t → bytes_eq name t.name ≡ false)
+        → (b || list_any (bytes_eq name) (names_in txns)) ≡ false
         → (i : ℕ) → slice_get (txn ∷ txns) i ≡ Some t → bytes_eq name t.name ≡ false
-    by_test true e none i is = absurd cc
-    by_test false e none zero is = ap (λ (u : Txn). bytes_eq name u.name) (sym (some_is txn t is)) ∙ e
-    by_test false e none (suc i) is = other_name name txns i t none is
+    by_test true e later none i is = absurd cc
+    by_test false e later none zero is = ap (λ (u : Txn). bytes_eq name u.name) (sym (some_is txn t is)) ∙ e
+    by_test false e later none (suc i) is = later none i is
 
 -- of transactions with different names each is found by its name
 found_by_name : (txns : List Txn) (i : ℕ) (t : Txn) → repeats (names_in txns) ≡ false → slice_get txns i ≡ Some t → txn_named txns t.name ≡ Some t
 found_by_name [] i t apart is = absurd cc
-found_by_name (txn ∷ txns) i t apart is = by_test (list_any (bytes_eq txn.name) (names_in txns)) refl apart i is
+found_by_name (txn ∷ txns) i t apart is =
+    by_test (list_any (bytes_eq txn.name) (names_in txns)) refl (λ more k there. found_by_name txns k t more there) apart i is
   where
-    by_test : (b : Bool) → list_any (bytes_eq txn.name) (names_in txns) ≡ b → cond b true (repeats (names_in txns)) ≡ false
+    by_test : (b : Bool) → list_any (bytes_eq txn.name) (names_in txns) ≡ b
+        → (repeats (names_in txns) ≡ false → (k : ℕ) → slice_get txns k ≡ Some t → txn_named txns t.name ≡ Some t) → cond b true (repeats (names_in txns)) ≡ false
         → (i : ℕ) → slice_get (txn ∷ txns) i ≡ Some t → txn_named (txn ∷ txns) t.name ≡ Some t
-    by_test true e apart i is = absurd cc
-    by_test false e apart zero is =
+    by_test true e later apart i is = absurd cc
+    by_test false e later apart zero is =
         let same : txn ≡ t = some_is txn t is in
         let itself : bytes_eq txn.name t.name ≡ true = (bytes_eq-Decides txn.name t.name).1 (ap (λ (u : Txn). u.name) same) in
         rw itself (ap (λ (u : Txn). Some u) same)
-    by_test false e apart (suc i) is =
+    by_test false e later apart (suc i) is =
         let other : bytes_eq txn.name t.name ≡ false = other_name txn.name txns i t e is in
-        rw other (found_by_name txns i t apart is)
+        rw other (later apart i is)
 
 -- what is submitted stands among all
 record StandsAt (txns : List Txn) (t : Txn) : Type 0 where
@@ -45,12 +49,12 @@ submitted_stands txns _ t is = absurd cc
 
 all_stand : (txns : List Txn) (events : List Event) → All (StandsAt txns) (filter_map (submitted_by txns) events)
 all_stand txns [] = All-nil (StandsAt txns)
-all_stand txns (e ∷ events) = by_found (submitted_by txns e) refl
+all_stand txns (e ∷ events) = by_found (submitted_by txns e) refl (all_stand txns events)
   where
-    by_found : (o : Option Txn) → submitted_by txns e ≡ o → All (StandsAt txns) (filter_map (submitted_by txns) (e ∷ events))
-    by_found None is = rw is (all_stand txns events)
-    by_found (Some t) is =
-        rw is (All-cons (StandsAt txns) t (filter_map (submitted_by txns) events) (submitted_stands txns e t is) (all_stand txns events))
+    by_found : (o : Option Txn) → submitted_by txns e ≡ o → All (StandsAt txns) (filter_map (submitted_by txns) events) → All (StandsAt txns) (filter_map (submitted_by txns) (e ∷ events))
+    by_found None is more = rw is more
+    by_found (Some t) is more =
+        rw is (All-cons (StandsAt txns) t (filter_map (submitted_by txns) events) (submitted_stands txns e t is) more)
 
 -- the transaction of a number, by its name
 one_named : (cat : Catalogue) (work : Workload) (number : TxnNo) → IsValid cat work → IsThere (submitted work) number

@@ -1,5 +1,5 @@
 -- What `certify` prints of a report.
-use Rattle.std.specs.Prelude.{ℕ, List, [], ◌∷◌, ◌++◌, codes}
+use Rattle.std.specs.Prelude.{ℕ, List, [], ◌++◌, codes}
 use Rattle.std.specs.Fmt.{decimal}
 use Rattle.sdd_script.specs.All.{Catalogue}
 use Rattle.sdd_script.specs.declared.workload.Workload.{Workload}

@@ -1,5 +1,5 @@
 -- A history in two pieces: a second workload goes on where an order of the first has ended.
-use Rattle.std.specs.Prelude.{ℕ, ◌≡◌, List, ◌++◌}
+use Rattle.std.specs.Prelude.{◌≡◌, List, ◌++◌}
 use Rattle.sdd_script.specs.All.{Catalogue, Database, Txn, TxnNo, database_of, serial}
 use Rattle.sdd_script.specs.declared.workload.Workload.{Workload}
 use Rattle.sdd_verify.specs.Replies.{replies_on, serial_replies}

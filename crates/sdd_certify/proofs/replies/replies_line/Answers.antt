@@ -1,5 +1,5 @@
-use Rattle.sdd_certify.proofs.All.{Database, Kept, ap, err_from_is_err_and, refl, ◌∙◌}
-use Rattle.sdd_certify.proofs.ReplyLines.{is_behind, is_here, none_left}
+use Rattle.sdd_certify.proofs.All.{Database, Kept, ap, refl, ◌∙◌}
+use Rattle.sdd_certify.proofs.ReplyLines.{is_behind, none_left}
 use Rattle.sdd_certify.proofs.replies.replies_line.Goals as goal
 
 pub txns-preserved : goal.txns-preserved
