@@ -1,5 +1,5 @@
 -- What lines of a trace tell of commits.
-use Rattle.std.proofs.Common.{All, List, None, Option, Some, [], ap, arith, bytes_eq, codes, cond, false, nat_eq as eqb, ne_eqb, refl, rules, suc, true, zero, ℕ, ◌%◌, ◌++◌, ◌+◌, ◌-◌, ◌/◌, ◌==◌, ◌∷◌, ◌≡◌}
+use Rattle.std.proofs.Common.{All, List, None, Option, Some, [], ap, arith, bytes_eq, codes, cond, false, nat_eq as eqb, ne_eqb, refl, rules, suc, take, true, zero, ℕ, ◌%◌, ◌++◌, ◌+◌, ◌-◌, ◌/◌, ◌==◌, ◌∙◌, ◌∷◌, ◌≡◌}
 use Rattle.std.proofs.lemmas.List.Elements.{All-cons, All-head, All-nil, All-tail}
 use Rattle.std.proofs.lemmas.List.Splits.{slice_split_at, slice_split_none}
 use Rattle.std.specs.Fmt.{decimal, digit_glyph, digits, digits_onto}
@@ -10,7 +10,7 @@ use Rattle.sdd_obligations.specs.history.declared.record.Rec.TheVariants as reco
 use Rattle.sdd_verified.specs.report.Names.{attempt_word, class_time, class_word, module_word, spaced, txn_name}
 use Rattle.sdd_verified.specs.report.Trace.{cond_words, record_words, time_word}
 use Rattle.sdd_verified.specs.script.All.{HasNoSpace, IsName}
-use Rattle.sdd_verified.proofs.script.words.Points.{place_here, place_on}
+use Rattle.sdd_verified.proofs.script.words.Points.{place_on}
 use Rattle.sdd_verified.proofs.ReportLines.{glyph_apart}
 use Rattle.sdd_certified.proofs.NamedBytes.{IsNot, bytes_apart, txn_bytes}
 
@@ -58,10 +58,10 @@ other_verb verb rest h e event = rw (first_word verb rest h) (other_by event ver
 -- a commit names its transaction
 
 up_to_attempt : (name rest : List ℕ) → All (IsNot 35) name → name_in (name ++ 35 ∷ rest) ≡ name
-up_to_attempt [] rest h = rw (place_here (λ c. eqb c 35) 35 rest refl) refl
+up_to_attempt [] rest h = refl
 up_to_attempt (c ∷ name) rest h =
-    rw (place_on (λ c. eqb c 35) c (name ++ 35 ∷ rest) (All-head (IsNot 35) c name h))
-    (ap (λ (l : List ℕ). c ∷ l) (up_to_attempt name rest (All-tail (IsNot 35) c name h)))
+    ap (λ (n : ℕ). take n (c ∷ (name ++ 35 ∷ rest))) (place_on (λ c. eqb c 35) c (name ++ 35 ∷ rest) (All-head (IsNot 35) c name h))
+    ∙ ap (λ (l : List ℕ). c ∷ l) (up_to_attempt name rest (All-tail (IsNot 35) c name h))
 
 module _ (cat : Catalogue) (txns : List Txn) (named : All (λ (t : Txn). IsName t.name) txns) where
   abbrev Words : Rec → List ℕ
