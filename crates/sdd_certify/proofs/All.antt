@@ -22,7 +22,7 @@ pub use Rattle.sdd_script.specs.declared.workload.Workload.{Workload}
 pub use Rattle.sdd_verify.proofs.LineCuts.{IsWhole, cut_are_lines, lines_behind, whole_behind}
 pub use Rattle.sdd_verify.proofs.LinesFound.{FirstOrder, IsOther, first_order, front_lines, order_again, rest_lines, spelled_apart}
 pub use Rattle.sdd_verify.proofs.RepliesPassed.{reply_whole}
-pub use Rattle.sdd_verify.proofs.Submissions.{filter_map_more, lent_fit, rows_fit, some_is}
+pub use Rattle.sdd_verify.proofs.Submissions.{lent_fit, rows_fit, some_is}
 pub use Rattle.sdd_verify.specs.Classes.{classes_submitted}
 pub use Rattle.sdd_verify.specs.Lines.{Numbered, ends_replies, is_order_line, lines_of, numbered_lines, order_line_in, passed, tells_reply}
 pub use Rattle.sdd_verify.specs.Orders.{is_in_turn, names_on, order_on, words_of}
@@ -35,10 +35,11 @@ pub use Rattle.std.proofs.Common.{All, Bool, Bor, Contains, Err, IsTrue, List, N
 pub use Rattle.std.proofs.lemmas.Bool.{cases_Bool, cases_eq}
 pub use Rattle.std.proofs.lemmas.Bool.Decides.{nat_tests}
 pub use Rattle.std.proofs.lemmas.List.{drop_all, drop_more, length-map, map-append, take_more}
-pub use Rattle.std.proofs.lemmas.List.Elements.{All-cons, All-head, All-nil, All-tail}
+pub use Rattle.std.proofs.lemmas.List.Elements.{All-cons, All-head, All-nil, All-tail, filter_map-append}
 pub use Rattle.std.proofs.lemmas.Map.Text.{is_eq-slice_cmp}
 pub use Rattle.std.proofs.lemmas.Result.{err_from_is_err_and}
 pub use Rattle.std.proofs.lemmas.Slice.Eq.{bytes_eq-Decides}
 pub use Rattle.std.specs.BTreeMap.{get, is_at}
 pub use Rattle.std.specs.Cmp.Lexicographic.{slice_cmp}
 pub use Rattle.std.specs.List.{list_any, position_from}
+pub use Rattle.std.specs.Option.{option_copied}

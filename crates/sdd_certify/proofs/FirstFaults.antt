@@ -1,5 +1,5 @@
 -- The first line at fault, one line more.
-use Rattle.sdd_certify.proofs.All.{At, Finding, LineRule, List, None, Some, Yes, [], ap, arith, commit_on, drop, first_behind, fold, last_committed, length, map, map-append, max, place_of, refl, subst, suc, take, zero, ℕ, ◌++◌, ◌+◌, ◌∙◌, ◌∷◌, ◌≡◌}
+use Rattle.sdd_certify.proofs.All.{At, Finding, LineRule, List, None, Some, Yes, [], ap, arith, commit_on, drop, first_behind, fold, last_committed, length, map, map-append, max, place_of, refl, subst, suc, sym, take, zero, ℕ, ◌++◌, ◌+◌, ◌∙◌, ◌∷◌, ◌≡◌}
 
 -- the list about the place where this member stands
 pub record Split {A : Type 0} (i : ℕ) (all : List A) (x : A) (rest : List A) : Type 0 where
@@ -35,6 +35,12 @@ goes_on rule all i line rest total e none so_far =
     let here = rw e at so_far in
     rw (up_to, behind) (rw none at here)
 
+-- one step of a loop over the lines
+pub one_more : (rule : LineRule) (all : List (List ℕ)) (i : ℕ) (line : List ℕ) (rest : List (List ℕ)) (total : Finding)
+    → drop i all ≡ line ∷ rest → rule (take i all) line ≡ None → first_behind rule (take i all) (drop i all) ≡ total
+    → (drop (i + 1) all ≡ rest) × (first_behind rule (take (i + 1) all) (drop (i + 1) all) ≡ total)
+one_more rule all i line rest total e none so_far = ((split_at i all line rest e).behind, goes_on rule all i line rest total e none so_far)
+
 -- where it is
 pub stops : (rule : LineRule) (all : List (List ℕ)) (i : ℕ) (line : List ℕ) (rest : List (List ℕ)) (name : List ℕ) (total : Finding)
     → drop i all ≡ line ∷ rest → rule (take i all) line ≡ Some name → first_behind rule (take i all) (drop i all) ≡ total → At (i + 1) name ≡ total
@@ -59,3 +65,9 @@ pub last_more : (names lines : List (List ℕ)) (line : List ℕ)
 last_more names lines line =
     let place : List ℕ → ℕ = λ l. place_of names (commit_on l) in
     ap (λ (places : List ℕ). fold max 0 places) (map-append place lines (line ∷ [])) ∙ fold_more 0 (map place lines) (place line)
+
+pub last_step : (names all : List (List ℕ)) (i : ℕ) (line : List ℕ) (rest : List (List ℕ)) (last : ℕ) → drop i all ≡ line ∷ rest
+    → last ≡ last_committed names (take i all) → max last (place_of names (commit_on line)) ≡ last_committed names (take (i + 1) all)
+last_step names all i line rest last e is =
+    ap (λ (n : ℕ). max n (place_of names (commit_on line))) is
+    ∙ sym (ap (last_committed names) (split_at i all line rest e).up_to ∙ last_more names (take i all) line)

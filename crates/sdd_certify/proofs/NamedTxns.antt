@@ -1,10 +1,14 @@
 -- The transactions that names name.
-use Rattle.sdd_certify.proofs.All.{All, All-cons, All-head, All-nil, All-tail, Bool, Bor, Catalogue, FitsTxn, IsValid, IsValidTxn, List, None, Option, Some, Txn, Workload, [], bytes_eq, cond, false, filter_map, filter_map_more, find, get_or, length, lent_fit, map, refl, some_is, subst, take, true, txn_named, txns_named, ℕ, ◌++◌, ◌+◌, ◌<◌, ◌∷◌, ◌≡◌}
+use Rattle.sdd_certify.proofs.All.{All, All-cons, All-head, All-nil, All-tail, Bool, Bor, Catalogue, FitsTxn, IsValid, IsValidTxn, List, None, Option, Some, Txn, Workload, [], ap, bytes_eq, cond, false, filter_map, filter_map-append, find, get_or, length, lent_fit, map, refl, some_is, subst, take, true, txn_named, txns_named, ℕ, ◌++◌, ◌+◌, ◌<◌, ◌∙◌, ◌∷◌, ◌≡◌}
+use Rattle.sdd_certify.proofs.PlacesFound.{lent_more}
 
 -- one name more adds its transaction
-pub names_more : (txns : List Txn) (names : List (List ℕ)) (i : ℕ) (d : List ℕ) → i < length names
-    → txns_named txns (take (i + 1) names) ≡ txns_named txns (take i names) ++ txns_named txns (get_or names i d ∷ [])
-names_more txns names i d within = filter_map_more (txn_named txns) names i d within
+pub names_more : (txns : List Txn) (names : List (Bor (List ℕ))) (i : ℕ) (d : Bor (List ℕ)) → i < length names
+    → txns_named txns (map (λ t. t.now) (take (i + 1) names))
+    ≡ txns_named txns (map (λ t. t.now) (take i names)) ++ txns_named txns ((get_or names i d).now ∷ [])
+names_more txns names i d within =
+    ap (txns_named txns) (lent_more names i d within)
+    ∙ filter_map-append (txn_named txns) (map (λ (t : Bor (List ℕ)). t.now) (take i names)) ((get_or names i d).now ∷ [])
 
 -- what is found has what each member has
 found_has : {A : Type 0} (test : A → Bool) (P : A → Type 0) (xs : List A) (x : A) → All P xs → find test xs ≡ Some x → P x

@@ -31,29 +31,29 @@ new_name names last made new place is absent updates old name =
     grind (arith, Here, bytes_eq, is_eq-slice_cmp, cases_Bool, bytes_eq-Decides, is_some, place_more, or_second, nat_tests)
 
 -- the names up to the next place
-lent_more : (names : List (Bor (List ℕ))) (i : ℕ) (t : Bor (List ℕ)) → i < length names → t ≡ get_or names i t
-    → map (λ t. t.now) (take (i + 1) names) ≡ map (λ t. t.now) (take i names) ++ t.now ∷ []
-lent_more names i t lt is =
-    ap (map (λ (u : Bor (List ℕ)). u.now)) (grind (arith, nat_tests, take_more)) ∙ map-append (λ (u : Bor (List ℕ)). u.now) (take i names) (t ∷ [])
+pub lent_more : (names : List (Bor (List ℕ))) (i : ℕ) (d : Bor (List ℕ)) → i < length names
+    → map (λ t. t.now) (take (i + 1) names) ≡ map (λ t. t.now) (take i names) ++ (get_or names i d).now ∷ []
+lent_more names i d lt =
+    ap (map (λ (u : Bor (List ℕ)). u.now)) (take_more names i d lt) ∙ map-append (λ (u : Bor (List ℕ)). u.now) (take i names) (get_or names i d ∷ [])
 
 -- one step of the loop, where the name has a place
-pub known_step : (names : List (Bor (List ℕ))) (i : ℕ) (t : Bor (List ℕ)) (key : List ℕ) (made : List ℕ → Option ℕ)
-    → i < length names → t ≡ get_or names i t → key ≡ t.now
+pub known_step : (names : List (Bor (List ℕ))) (i : ℕ) (d : Bor (List ℕ)) (key : List ℕ) (made : List ℕ → Option ℕ)
+    → i < length names → key ≡ (get_or names i d).now
     → is_some (made key) ≡ true → Found made (map (λ t. t.now) (take i names)) → Found made (map (λ t. t.now) (take (i + 1) names))
-known_step names i t key made lt is same has old =
+known_step names i d key made lt same has old =
     let there = subst (λ (n : List ℕ). is_some (made n) ≡ true) same has in
-    subst (Found made) (sym (lent_more names i t lt is)) (known_name (map (λ (t : Bor (List ℕ)). t.now) (take i names)) t.now made there old)
+    subst (Found made) (sym (lent_more names i d lt)) (known_name (map (λ (t : Bor (List ℕ)). t.now) (take i names)) (get_or names i d).now made there old)
 
 -- and where it has none yet
-pub new_step : (names : List (Bor (List ℕ))) (i : ℕ) (t : Bor (List ℕ)) (key : List ℕ) (made new : List ℕ → Option ℕ)
-    → i < length names → t ≡ get_or names i t → key ≡ t.now → is_some (made key) ≡ false
+pub new_step : (names : List (Bor (List ℕ))) (i : ℕ) (d : Bor (List ℕ)) (key : List ℕ) (made new : List ℕ → Option ℕ)
+    → i < length names → key ≡ (get_or names i d).now → is_some (made key) ≡ false
     → ((name : List ℕ) → new name ≡ cond (is_at (slice_cmp nat_cmp key) name) (Some (i + 1)) (made name))
     → Found made (map (λ t. t.now) (take i names)) → Found new (map (λ t. t.now) (take (i + 1) names))
-new_step names i t key made new lt is same absent updates old =
+new_step names i d key made new lt same absent updates old =
     let nothing = subst (λ (n : List ℕ). is_some (made n) ≡ false) same absent in
     let now = subst (λ (n : List ℕ). (name : List ℕ) → new name ≡ cond (is_at (slice_cmp nat_cmp n) name) (Some (i + 1)) (made name)) same updates in
     let long : length (map (λ (t : Bor (List ℕ)). t.now) (take i names)) ≡ i =
     length-map (take i names) (λ (t : Bor (List ℕ)). t.now) ∙ length-take-le i names (let le : i ≤ length names = omega arith in le) in
     let count : i + 1 ≡ 1 + length (map (λ (t : Bor (List ℕ)). t.now) (take i names)) = omega (arith, long) in
-    subst (Found new) (sym (lent_more names i t lt is))
-    (new_name (map (λ (t : Bor (List ℕ)). t.now) (take i names)) t.now made new (i + 1) count nothing now old)
+    subst (Found new) (sym (lent_more names i d lt))
+    (new_name (map (λ (t : Bor (List ℕ)). t.now) (take i names)) (get_or names i d).now made new (i + 1) count nothing now old)

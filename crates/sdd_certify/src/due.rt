@@ -57,6 +57,7 @@ fn add_named<'a>(
 }
 
 /// The transactions of these names. Looks through the transactions for each name.
+#[tactic(auto, using(crate::proofs::NamedTxns::names_more))]
 fn txns_named<'a>(
     alloc: Global,
     txns: &'a [Txn],

@@ -75,7 +75,8 @@ pub(crate) fn replies_line(
     let mut left = skipped;
     'txns: for txn in txns {
         let reply = plain.run(catalogue, txn)?;
-        match reply_line(alloc, txn.name.as_str().as_bytes(), &reply, left)? {
+        let next = reply_line(alloc, txn.name.as_str().as_bytes(), &reply, left)?;
+        match next {
             Skipped::Line(line) => return Ok(Some(line)),
             Skipped::Left(more) => left = more,
         }

@@ -7,19 +7,17 @@ pub names-preserved : goal.names-preserved
 names-preserved c =
     let names = c.args.names.now in
     let i = c.names.i in
-    let t = c.index-names-i.result in
     let within = c.names-test.true in
-    let there = c.index-names-i.is in
     let same = c.in_ok-name.ensures in
     let old : List ℕ → Option ℕ = λ n. get (slice_cmp nat_cmp) c.names.made n in
     elim c.if-not-contains_key.branch [
       | then-not-contains_key+in_ok-insert w ↦
           let absent = sym c.contains_key.ensures ∙ w.if-not-contains_key.true in
           let new : List ℕ → Option ℕ = λ n. get (slice_cmp nat_cmp) w.insert.new.self n in
-          let now = new_step names i t c.in_ok-name.name old new within there same absent w.in_ok-insert.ensures.updates.0 c.names.invariant in
+          let now = new_step names i _ c.in_ok-name.name old new within same absent w.in_ok-insert.ensures.updates.0 c.names.invariant in
           subst (λ m. Found (λ n. get (slice_cmp nat_cmp) m n) (map (λ t. t.now) (take (i + 1) names))) (sym w.made-is) now
       | else-not-contains_key w ↦
           let has = sym c.contains_key.ensures ∙ w.if-not-contains_key.false in
-          let now = known_step names i t c.in_ok-name.name old within there same has c.names.invariant in
+          let now = known_step names i _ c.in_ok-name.name old within same has c.names.invariant in
           subst (λ m. Found (λ n. get (slice_cmp nat_cmp) m n) (map (λ t. t.now) (take (i + 1) names))) (sym w.made-is) now
     ]
