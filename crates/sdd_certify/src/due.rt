@@ -60,14 +60,14 @@ fn add_named<'a>(
 #[tactic(auto, using(crate::proofs::NamedTxns::names_more))]
 fn txns_named<'a>(
     alloc: Global,
-    txns: &'a [Txn],
+    work: &'a Workload,
     names: &[&[u8]],
 ) -> Result<Vec<&'a Txn>, NoMemory>
-    ensures { IfOk result (λ found. map (λ t. t.now) found.items ≡ txns_named txns.now (map (λ w. w.now) names.now)) }
+    ensures { IfOk result (λ found. map (λ t. t.now) found.items ≡ txns_named work.now.txns (map (λ w. w.now) names.now)) }
 {
     let mut found = Vec::new(alloc);
     'names: for name in names {
-        add_named(&mut found, txns, name)?;
+        add_named(&mut found, work.txns.as_slice(), name)?;
     }
     Ok(found)
 }
@@ -84,7 +84,7 @@ fn due_line(
     ensures { IfOk result (λ due. due ≡ line_or_end (slice_get (due_lines catalogue.now work.now (names_on line.now)) skipped)) }
 {
     let names = names_on(alloc, line)?;
-    let txns = txns_named(alloc, work.txns.as_slice(), names.as_slice())?;
+    let txns = txns_named(alloc, work, names.as_slice())?;
     match replies_line(alloc, catalogue, &work.rows, txns.as_slice(), skipped)? {
         Some(line) => Ok(Due::Line(line)),
         None => Ok(Due::NoReply),
