@@ -114,6 +114,8 @@ class Answers(unittest.TestCase):
             self.assertEqual(call(word, BRIDGE[0], "-q").stdout, call("reference", word, BRIDGE[0]).stdout)
         self.assertEqual(call("robust", BRIDGE[0], "-q").stdout, b"snapshot isolation: enough\n")
         self.assertEqual(call("robust", *BRIDGE, "-q").stdout, b"snapshot isolation: robust\n")
+        self.assertEqual(call("certify", *BRIDGE, REPORT, "-q"), Done(0, call("reference", "certify", *BRIDGE, REPORT).stdout, b""))
+        self.assertEqual(call("certify", *BRIDGE, "-", "-q", given=b"order\n")[:2], (1, b"serializable no 2\nexpected no reply\ncomplete yes\nstrict yes\n"))
         self.assertNotEqual(call("reference", "--break", "commit-order", "run", *BRIDGE).stdout, b"")
 
     def test_version_and_help(self):

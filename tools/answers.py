@@ -25,7 +25,7 @@ def reference_answer(words, files):
             raise FileNotFoundError(name)
         return files[name]
     status, reported, text = answer(words, read)
-    return status, reported.encode(), text.encode()
+    return status, reported.encode(), text.encode("utf-8", "surrogateescape")
 
 
 class Program:

@@ -2,14 +2,14 @@
 
     sdd check | graph | table | advise CAT        sdd run | plain | inside CAT WORK
     sdd verify CAT WORK REPORT                    sdd control FILE        sdd make SEED N
-    sdd robust CAT [WORK]                         sdd needs CAT
+    sdd robust CAT [WORK]                         sdd needs CAT           sdd certify CAT WORK REPORT
 
 CAT is a catalogue, WORK a workload (docs/FORMATS.md); `-` is standard input. The text is that of the program to the
-byte, and so is the status, but that `verify` ends with 1 where the report is not serializable. A refusal of a file is
-printed with its place there, marked, the cause, and what helps. With --json all but `advise`, `inside` and `control` print
-JSON (`inside` always does). `robust` with a workload is answered by the reference alone.
+byte, and so is the status, but that `verify` and `certify` end with 1 where the report is not serializable. A refusal of a
+file is printed with its place there, marked, the cause, and what helps. With --json all but `advise`, `inside`, `control` and
+`certify` print JSON (`inside` always does). `robust` with a workload is answered by the reference alone.
 
-The program is that of --program (and --inside; for `robust` and `needs` the `sdd1_ask` beside it); else the proved one,
+The program is that of --program (and --inside; for `robust`, `needs` and `certify` the `sdd1_ask` beside it); else the proved one,
 where it is installed; else an unproved build; else the reference of this package, which needs Python alone and is slower. A
 line says which, but with --quiet.
 """
@@ -30,8 +30,10 @@ from sdd.model.words import number_between
 from sdd.programs import add_program, asked_within, find_ask, find_programs, named, report_by, report_program
 
 NAMES = {"check": ["CAT"], "graph": ["CAT"], "table": ["CAT"], "advise": ["CAT"], "run": ["CAT", "WORK"], "plain": ["CAT", "WORK"],
-         "inside": ["CAT", "WORK"], "robust": ["CAT", "[WORK]"], "needs": ["CAT"], "verify": ["CAT", "WORK", "REPORT"], "control": ["FILE"], "make": ["SEED", "N"]}
-QUESTIONS = ("robust", "needs")
+         "inside": ["CAT", "WORK"], "robust": ["CAT", "[WORK]"], "needs": ["CAT"], "verify": ["CAT", "WORK", "REPORT"],
+         "certify": ["CAT", "WORK", "REPORT"], "control": ["FILE"], "make": ["SEED", "N"]}
+QUESTIONS = ("robust", "needs", "certify")
+NOT_SERIALIZABLE = {"verify": b"no", "certify": b"serializable no"}
 
 
 def member_of(name):
@@ -106,7 +108,7 @@ def answer_of(command, words):
     """The program's answer; the reference answers in this process."""
     if named(command) == "the reference":
         outcome = asked_within(command[3:] + words)
-        return Answer(outcome.status, outcome.text.encode(), outcome.error.encode())
+        return Answer(outcome.status, outcome.text.encode("utf-8", "surrogateescape"), outcome.error.encode())
     try:
         done = subprocess.run(command + words, stdin=subprocess.DEVNULL, stdout=subprocess.PIPE, stderr=subprocess.PIPE)
     except OSError as fault:
@@ -139,7 +141,7 @@ def main():
         if answer.status:
             return refuse(answer, files[:2])            # a refusal is of the catalogue or the workload, and never of a report
         text = as_json(word, answer.text.decode()).encode() if getattr(asked, "json", False) else answer.text
-    return put(text) or int(word == "verify" and answer.text.startswith(b"no"))
+    return put(text) or int(word in NOT_SERIALIZABLE and answer.text.startswith(NOT_SERIALIZABLE[word]))
 
 
 def put(text):

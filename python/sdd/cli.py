@@ -36,6 +36,7 @@ COMMANDS = {
     "control": Command(RUN, "sdd.calls", "how backup sites complete a commit"),
     "robust": Command(RUN, "sdd.calls", "whether snapshot isolation is enough for classes, or for transactions"),
     "needs": Command(RUN, "sdd.calls", "which modules each class needs"),
+    "certify": Command(RUN, "sdd.calls", "whether a report is serializable, complete and strict"),
     "reference": Command(RUN, "sdd.reference.commands", "the same words, by the reference; also with a rule broken"),
     "explain": Command(RUN, "sdd.explain.explain", "what a refusal means, and what helps"),
     "page": Command(LOOK, "sdd.view.page", "a page that shows every packet of a run"),

@@ -5,6 +5,7 @@ use crate::case::{Case, Program, Taking};
 use crate::text::Text;
 use anyhow::{Result, anyhow};
 use sdd_app::run_sdd1;
+use sdd_app_ask::run_ask;
 use sdd_app_inside::run_inside;
 use sdd_base::{Bytes, CallNos, Files, MemShelf, MemSink, ShelfFile};
 use sdd_shell::Status;
@@ -49,6 +50,7 @@ pub fn call(alloc: Global, case: &Case, run: Run<'_>) -> Result<Answer> {
     let status = match case.program {
         Program::Sdd1 => run_sdd1(alloc, words, &mut shelf, &mut out, &mut err),
         Program::Inside => run_inside(alloc, words, &mut shelf, &mut out, &mut err),
+        Program::Ask => run_ask(alloc, words, &mut shelf, &mut out, &mut err),
     };
     Ok(Answer { status, out, err })
 }

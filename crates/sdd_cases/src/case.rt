@@ -26,6 +26,7 @@ pub enum Each {
 pub enum Program {
     Sdd1,
     Inside,
+    Ask,
 }
 
 /// How a sink is made to fail. A call's number 0 is that of none.
@@ -129,6 +130,7 @@ fn program(name: &str) -> Result<Program> {
     match name {
         "sdd1" => Ok(Program::Sdd1),
         "sdd1_inside" => Ok(Program::Inside),
+        "sdd1_ask" => Ok(Program::Ask),
         _ => bail!("no such program"),
     }
 }

@@ -7,7 +7,7 @@
 //! |---|---|
 //! | `keep NAME` | a text that cases may name begins; its lines follow |
 //! | `case NAME` | a case begins; no other has its name |
-//! | `program NAME` | whose call it is: `sdd1`, as where the line is left out, or `sdd1_inside` |
+//! | `program NAME` | whose call it is: `sdd1`, as where the line is left out, `sdd1_inside` or `sdd1_ask` |
 //! | `words W ..` | the words of the call, none where the line is left out |
 //! | `file NAME KEPT` | the shelf has the kept text KEPT under NAME |
 //! | `text NAME` | the shelf has a text of its own under NAME; its lines follow |

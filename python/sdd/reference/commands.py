@@ -4,6 +4,7 @@
     sdd reference inside CAT WORK               the states of a run, as JSON lines (sdd/reference/inside.py)
     sdd reference robust CAT | needs CAT        what `sdd1_ask` answers (sdd/reference/ask.py)
     sdd reference robust CAT WORK               the same of transactions (sdd/reference/robust.py)
+    sdd reference certify CAT WORK REPORT       so (sdd/reference/certify.py)
 
 From words and files it makes a status, a line on standard error, and a text. Words are judged first, then the catalogue, then the workload, then the report. Definition: docs/FORMATS.md, "Words";
 crates/sdd_app/specs/Answer.antt, Command.antt.
@@ -17,6 +18,7 @@ from sdd.model.workload import read_workload
 from sdd.reference.advise import advice_text
 from sdd.reference import ask
 from sdd.reference import breaking
+from sdd.reference.certify import certificate_text
 from sdd.reference.control import control_text
 from sdd.reference.graph import graph_text, table_text
 from sdd.reference.inside import inside_text
@@ -44,6 +46,7 @@ def run_text(cat, work):
 
 
 OF_WORKLOAD = {"run": run_text, "plain": plain_text, "inside": inside_text, "robust": robust_work_text}
+OF_REPORT = {"verify": verdict_text, "certify": certificate_text}
 
 
 def text_of(words, read):
@@ -56,10 +59,10 @@ def text_of(words, read):
         return OF_WORKLOAD[key](cat, read_workload(cat, read(names[1])))
     if key == "control" and len(names) == 1:
         return control_text(read(names[0]))
-    if key == "verify" and len(names) == 3:
+    if key in OF_REPORT and len(names) == 3:
         cat = read_catalogue(read(names[0]))
         work = read_workload(cat, read(names[1]))
-        return verdict_text(cat, work, read(names[2]))
+        return OF_REPORT[key](cat, work, read(names[2]))
     if key == "make" and len(names) == 2:
         seed, count = number_between(names[0], 0, 2**31 - 1), number_between(names[1], 0, 2048)
         if None not in (seed, count):
@@ -98,7 +101,7 @@ def main():
         words = words[2:]
     status, reported, text = answer(words, read_file)
     try:
-        sys.stdout.buffer.write(text.encode())
+        sys.stdout.buffer.write(text.encode("utf-8", "surrogateescape"))
         sys.stdout.flush()
     except OSError:
         status, reported = 7, "write fault\n"

@@ -8,27 +8,40 @@ from sdd.reference.plain import reply_lines, serial
 from sdd.reference.redeclare import classes_submitted
 
 
-def verdict(cat, work, report):
-    """None, or the number of the first line at fault."""
-    if len(report) > MAX_FILE_BYTES:
-        return 0
+NO_REPLY = b"no reply"
+
+
+def order_line_in(report):
+    """The lines, and how many stand before the first order line: None where there is none."""
     lines = report.split(b"\n")[:-1]
-    at = next((k for k, line in enumerate(lines) if line == b"order" or line.startswith(b"order ")), None)
+    return lines, next((k for k, line in enumerate(lines) if line == b"order" or line.startswith(b"order ")), None)
+
+
+def judge(cat, work, report):
+    """The number of the first line at fault and what is due there: a line of a reply, or NO_REPLY; None where a line before the replies is at fault. (None, None) where none is."""
+    if len(report) > MAX_FILE_BYTES:
+        return 0, None
+    lines, at = order_line_in(report)
     if at is None:
-        return len(lines) + 1
+        return len(lines) + 1, None
     order = order_on(work, lines[at], classes_submitted(cat, work))
     if order is None:
-        return at + 1
+        return at + 1, None
     txns = [work.txns[n - 1] for n in order]
     wanted = [line for txn, reply in zip(txns, serial(cat, work.rows, txns)[0]) for line in reply_lines(txn.name, reply)]
     behind = lines[at + 1:]
     for k, line in enumerate(wanted):
         if behind[k:k + 1] != [line.encode()]:
-            return at + 2 + k
+            return at + 2 + k, line.encode()
     after = behind[len(wanted):len(wanted) + 1]
     if not after or after[0].startswith((b"reply ", b"query ", b"row ")):
-        return at + 2 + len(wanted)
-    return None
+        return at + 2 + len(wanted), NO_REPLY
+    return None, None
+
+
+def verdict(cat, work, report):
+    """None, or the number of the first line at fault."""
+    return judge(cat, work, report)[0]
 
 
 def order_on(work, line, classes):

@@ -1,0 +1,3 @@
+pub mod CommitLines
+pub mod NamedBytes
+pub mod RunComplete
