@@ -6,6 +6,4 @@ pub mod Needed
 pub mod Needs
 pub mod Reaching
 pub mod Robust
-pub mod Tasks
 pub mod Texts
-pub mod Waiting
