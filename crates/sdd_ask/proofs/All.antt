@@ -4,7 +4,8 @@ pub use Rattle.sdd_ask.specs.Flags.{Relation, Tells, closed, flag_at, flags_of, 
 pub use Rattle.sdd_ask.specs.Needed.{is_own, leads_to, needed_by, needs_by}
 pub use Rattle.sdd_ask.specs.Needs.{TellsNeeds}
 pub use Rattle.sdd_outage.specs.Needs.{Needs}
-pub use Rattle.sdd_outage.specs.Needs.Needs.{attempts, holds, reads_at, runs_at, waits}
+pub use Rattle.sdd_outage.specs.Needs.Needs.{attempts, holds, queues, reads_at, runs_at, waits}
+pub use Rattle.sdd_ask.specs.Queueing.{awaits, is_class, is_queued, meets, read_at_one}
 pub use Rattle.sdd_ask.specs.Reaching.{begins, is_held, moves}
 pub use Rattle.sdd_ask.specs.Robust.{asks_for_own_time, first_p3, isolation_text, reason_line}
 pub use Rattle.sdd_outage.specs.Tasks.{Task, attempt, passing}

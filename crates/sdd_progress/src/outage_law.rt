@@ -1,6 +1,5 @@
 //! What an outage of data modules costs.
 ghost use Rattle.std.specs.Prelude.{◌≡◌, None, true};
-ghost use Rattle.sdd_lawful.specs.SoundInput.{AreNumbered};
 ghost use Rattle.sdd_obligations.specs.All.{AreSubmittedOnce, Input, IsLawful, Log, Rests, all_links, calls_of, next, quiet};
 ghost use Rattle.sdd_progress.specs.Outage.{CostsNoMore};
 ghost use Rattle.sdd_progress.specs.Premises.{HasSoundLists, IsIdleAtRedeclares};
@@ -16,5 +15,5 @@ pub fn law_outage()
     ensures at_end { (given : Input) (log : Log) → AreSubmittedOnce given.events → IsLawful given log
         → next given log ≡ None → quiet (all_links given) (calls_of log) ≡ true → IsStill given log }
     ensures costs { (given : Input) (log : Log) → IsStill given log → HasSoundLists given log
-        → IsIdleAtRedeclares given log → AreNumbered given log → CostsNoMore given log }
+        → IsIdleAtRedeclares given log → CostsNoMore given log }
 {}
