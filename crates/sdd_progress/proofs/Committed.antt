@@ -85,11 +85,12 @@ at_home_by g log h lists n c s =
     let back = redeclares_back s.later (Submitted s.at n ∷ s.rest) in
     let of : IsEraOf g.catalogue era = (lists (redeclares s.rest) (omega (arith, back, ap redeclares s.is))).era in
     let at : s.at ≡ home g.catalogue c =
-    x.at_is ∙ (λ j. home_of (nth_era g (sym (ap redeclares x.is) j)).catalogue (s.text_is j)) ∙ home_is g.catalogue era of s.text c s.class_is in
+    x.at_is ∙ (λ j. home_of (nth_era g (sym (ap redeclares x.is) j)).catalogue (s.text_is j))
+    ∙ ap (λ k. home_by k s.text) (sym s.class_is) ∙ home_is g.catalogue era of s.text c s.class_is in
     let is : log ≡ s.later ++ Submitted (home g.catalogue c) n ∷ s.rest = s.is ∙ ap (λ a. s.later ++ Submitted a n ∷ s.rest) at in
     let m = submit_local g c n s.text s.later s.rest s.text_is in
     let local : at_home g c log ≡ m.0 ++ Submits n s.text ∷ at_home g c s.rest = ap (at_home g c) is ∙ m.1 in
-    let i = submitted_in (home_setting g c) c n s.text m.0 (at_home g c s.rest) (for_class g c s.rest s.text s.class_is) in
+    let i = submitted_in (home_setting g c) c n s.text m.0 (at_home g c s.rest) (for_class g c s.rest s.text (sym s.class_is)) in
     let there : IsAtHome g log n = record {
       text = s.text;
       class = c;

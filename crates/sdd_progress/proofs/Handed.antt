@@ -1,5 +1,5 @@
 -- Where nothing goes on, all that was put on a link was handed over at its end, if the site there takes part.
-use Rattle.sdd_progress.proofs.All.{Bool, Catalogue, D, Input, IsQuiet, IsStill, IsThere, List, Log, None, Option, Site, Some, [], all_at, all_links, and_left, and_right, ap, are_linked, arith, calls_of, cond, cons_option, dec_le, dm_no, drop, false, filter_map, flat_map, flight, hand_on, handed, hands_from, home, in_left, in_order, in_right, inl, inr, is_down, is_empty, is_link, is_quiet_link, le_is, length, link, link_of, link_parts, links, local_of, member_there, none_not_some, not, one_on, puts_to, refl, same_or_not, sent, sent_is, site_there, sites, slice_get, sound, subst, suc, sym, take_all, takes_part, true, zero, ℕ, ◌-◌, ◌∙◌, ◌∷◌, ◌≡◌, ◌≤◌}
+use Rattle.sdd_progress.proofs.All.{Catalogue, D, Input, IsQuiet, IsStill, IsThere, List, Log, None, Option, Site, Some, [], all_at, all_links, and_left, and_right, ap, are_linked, arith, calls_of, cond, cons_option, dec_le, dm_no, drop, false, filter_map, flat_map, flight, hand_on, handed, hands_from, home, in_left, in_order, in_right, inl, inr, is_down, is_empty, is_link, is_quiet_link, le_is, length, link, link_of, link_parts, links, local_of, member_there, none_not_some, not, one_on, puts_to, refl, same_or_not, sent, sent_is, site_there, sites, slice_get, sound, subst, suc, sym, take_all, takes_part, true, zero, ℕ, ◌-◌, ◌∙◌, ◌∷◌, ◌≡◌, ◌≤◌}
 use Rattle.sdd_progress.proofs.Lists.{none_at}
 
 -- places

@@ -1,5 +1,5 @@
 -- Where nothing goes on, an active attempt has a READ that is not processed, if the modules that it asks are up.
-use Rattle.sdd_progress.proofs.All.{AllAskParts, AllByRecursion, AllHaveParts, Asks, AtTurn, Attempt, Bool, Catalogue, Condition, D, Exchange, FitsCondition, FitsInput, FitsQuery, FitsStatement, FitsText, HasNear, HasTurn, Input, IsAtTurn, IsClass, IsGoing, IsModule, IsNear, IsNearBy, IsPermitted, IsSoundCatalogue, IsStill, IsUnanswered, List, Log, Msg, None, Open, Query, RelNo, Site, Some, Stmt, Turn, View, [], active, active_near, active_so, all_new, and_right, answered_last, apart, arith, asker, askings, asks_open, asks_rows, at_home, at_map, at_module, attempt_due, awaited, base_of, class_view, classes_of, contains, data_turns, dm_no, eqb-true, false, filter, first_send, first_some, firsts, from_site, home, home_fair, home_first, home_of, home_turns, in_filtered, inl, inr, is_asked_of, is_down, is_empty, is_over, is_question, is_read, length, map, not_both, open_due, opens, or_left, or_none, pipe, range_at, reads_asked, recursion_from_All, refl, rows_asked, same_number, setting_of, slice_get, small_home, sound_whole, spoken, submitted_fit, subst, sym, to_module, true, turn_at, turn_with, unsent, uses_in, view_of, ℕ, ◌+◌, ◌==◌, ◌∙◌, ◌∷◌, ◌≡◌, ◌≤◌}
+use Rattle.sdd_progress.proofs.All.{AllAskParts, AllByRecursion, AllHaveParts, Asks, AtTurn, Attempt, Bool, Catalogue, Condition, D, Exchange, FitsCondition, FitsInput, FitsQuery, FitsStatement, FitsText, HasNear, HasTurn, Input, IsAtTurn, IsClass, IsGoing, IsModule, IsNear, IsNearBy, IsPermitted, IsSoundCatalogue, IsStill, IsUnanswered, List, Log, Msg, None, Open, Query, RelNo, Site, Some, Stmt, Turn, View, [], active, active_near, active_so, all_new, and_right, answered_last, ap, apart, arith, asker, askings, asks_open, asks_rows, at_home, at_map, at_module, attempt_due, awaited, base_of, class_view, classes_of, contains, data_turns, dm_no, eqb-true, false, filter, first_send, first_some, firsts, from_site, home, home_fair, home_first, home_of, home_turns, in_filtered, inl, inr, is_asked_of, is_down, is_empty, is_over, is_question, is_read, length, map, not_both, open_due, opens, or_left, or_none, pipe, range_at, reads_asked, recursion_from_All, refl, rows_asked, same_number, setting_of, slice_get, small_home, sound_whole, spoken, submitted_fit, subst, sym, to_module, true, turn_at, turn_with, unsent, uses_in, view_of, ℕ, ◌+◌, ◌==◌, ◌∙◌, ◌∷◌, ◌≡◌, ◌≤◌}
 use Rattle.sdd_progress.proofs.Going.{is_going}
 use Rattle.sdd_progress.proofs.Handed.{home_part, none_in_flight, up_part}
 use Rattle.sdd_progress.proofs.Lists.{either, head_at, no_head, none_at}

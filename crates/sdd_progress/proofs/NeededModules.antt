@@ -1,6 +1,6 @@
 -- What is up where the modules are that a class needs: the modules that its attempts ask, since a class reads there, and so
 -- those at which its READs wait; and what the classes need for which they wait.
-use Rattle.sdd_progress.proofs.All.{AllByRecursion, Attempt, Catalogue, Cond, Contains, D, FragNo, Input, IsDiagonalIn, IsFromTable, IsPermitted, IsPutAt, IsReader, List, Log, Msg, Needs, NeedsAreUp, Option, P2, P3, Protocol, Read, Setting, Site, Some, [], active, ap, arith, ascending, asks_by, at_home, attempt_task, attempts_need, both, class_at, class_number, contains, cons_option, dm_no, eq-eqb, eqb-true, false, filter_map, firsts, fragments_in, head_put, held_needs, home, home_fair, if◌then◌else◌, inl, inr, is_wait, local_of, map, option_map, or_left, or_right, passing_task, queued_needs, read_needs, recursion_from_All, refl, same_number, sends_of_act, setting_of, slice_get, start_at, start_read, subst, sym, table_in_force, time_at, to_site, true, true_or_false, uses_of, waits_by, waits_need, ℕ, ◌==◌, ◌∙◌, ◌∷◌, ◌≡◌, ◌≤◌}
+use Rattle.sdd_progress.proofs.All.{AllByRecursion, Attempt, Catalogue, Cond, Contains, D, FragNo, Input, IsDiagonalIn, IsFromTable, IsPermitted, IsPutAt, IsReader, List, Log, Msg, Needs, NeedsAreUp, None, Option, P2, P3, Protocol, Read, Setting, Site, Some, [], active, ap, arith, ascending, asks_by, at_home, attempt_task, attempts_need, both, class_at, class_number, contains, cons_option, dm_no, eq-eqb, eqb-true, false, filter_map, firsts, fragments_in, head_put, held_needs, home, home_fair, if◌then◌else◌, inl, inr, is_wait, local_of, map, option_map, or_left, or_right, passing_task, queued_needs, read_needs, recursion_from_All, refl, same_number, sends_of_act, setting_of, slice_get, start_at, start_read, subst, sym, table_in_force, time_at, to_site, true, true_or_false, uses_of, waits_by, waits_need, ℕ, ◌==◌, ◌∙◌, ◌∷◌, ◌≡◌, ◌≤◌}
 use Rattle.sdd_lawful.proofs.Touched.{any_there}
 use Rattle.sdd_obligations.proofs.catalog.Sound.{found_in_all}
 use Rattle.sdd_obligations.proofs.invariants.Answered.{honest}
@@ -33,7 +33,7 @@ found_read : (f d : ℕ) (rs : List ReadPlace) (o : Option ReadPlace) → find (
 found_read f d rs (Some r) e p =
     let all = All-from_recursion (Contains rs) rs (all_have (Contains rs) rs (λ x h. h)) in
     (r, found_in_all (Contains rs) (λ (x : ReadPlace). x.fragment.0 == f) rs r all e, cc)
-found_read f d rs _ e p = cc
+found_read f d rs None e p = cc
 
 read_there : (cat : Catalogue) (c f d : ℕ) → (c == 0) ≡ false → reads_at cat c f ≡ Some d → ReadsThere cat c d
 read_there cat c f d z e =
@@ -48,7 +48,7 @@ each_read cat c (f ∷ fs) z =
     let i = each_read cat c fs z in
     elim (reads_at cat c f) as (λ o. reads_at cat c f ≡ o → AllByRecursion (ReadsThere cat c) (cons_option o (filter_map (reads_at cat c) fs))) [
       | Some d ↦ λ e. (read_there cat c f d z e, i)
-      | _ ↦ λ e. i
+      | None ↦ λ e. i
     ] refl
 
 of_each : (P : ℕ → Type 0) (xs : List ℕ) (d : ℕ) → AllByRecursion P xs → contains xs d ≡ true → P d

@@ -1,5 +1,5 @@
 -- What an outage of data modules leaves undone.
-use Rattle.sdd_progress.proofs.All.{AppliedBefore, AreNumbered, AreSubmittedOnce, Attempt, Bases, Commit, Committed, CostsNoMore, D, Does, HasSoundLists, Input, IsApplied, IsClass, IsCommitted, IsIdleAtRedeclares, IsLawful, IsModule, IsPermitted, IsSoundCatalogue, IsSoundList, IsStill, IsSubmittedIn, Log, NeedsAreUp, None, Records, Rests, Some, U, UndeclaredAreDone, WasCommitted, [], active, all_links, ap, arith, at_home, attempt_task, calls_of, commit_act, commit_of_log, complete_parts, dm_no, has_copy, head_of, history, home, is_down, keeps_applies, lawful_permitted, length, local_of, next, none_to_hand, not_zero, passing_task, queue, quiet, redeclares, setting_of, subst, sym, true, false, ℕ, ◌++◌, ◌==◌, ◌∙◌, ◌∷◌, ◌≡◌, ◌≤◌}
+use Rattle.sdd_progress.proofs.All.{AppliedBefore, AreSubmittedOnce, Committed, CostsNoMore, D, Does, HasSoundLists, Input, IsClass, IsCommitted, IsIdleAtRedeclares, IsLawful, IsPermitted, IsSoundCatalogue, IsSoundList, IsStill, IsSubmittedIn, Log, NeedsAreUp, None, Records, Rests, UndeclaredAreDone, WasCommitted, [], all_links, ap, arith, at_home, attempt_task, calls_of, commit_of_log, complete_parts, dm_no, has_copy, head_of, history, home, is_down, keeps_applies, lawful_permitted, length, next, none_to_hand, not_zero, passing_task, queue, quiet, redeclares, setting_of, subst, sym, true, false, ℕ, ◌++◌, ◌==◌, ◌∙◌, ◌∷◌, ◌≡◌, ◌≤◌}
 use Rattle.sdd_lawful.proofs.Applied.{applied_there, apply_in, apply_rec}
 use Rattle.sdd_lawful.proofs.Committed.{same_committed}
 use Rattle.sdd_obligations.specs.All.{IsClassOf}
