@@ -100,6 +100,10 @@ record IsAlong (G : WaitGraph) (i j time own p2 : ℕ) : Type 0 where
   diagonal : HasDiagonal G i j by_own
   time_is : time ≡ (if by_own then own else p2)
 
+time_along : (own : Bool) (r : WaitingRead) → (if own then r.ts else r.p2) ≡ wait_time own r
+time_along true r = refl
+time_along false r = refl
+
 diagonal_in : (cat : Catalogue) (table : List line.Entry) (p : Protocol) (own : Bool) (i j : ℕ) (f : FragNo)
     → p ≡ wait_protocol own → IsDiagonalIn table p i j f → HasDiagonal (wait_graph cat table) i j own
 diagonal_in cat table p own i j f e d = grind (arith, diagonals_listed)
@@ -177,7 +181,7 @@ module _ (g : Input) (log : Log) (h : IsStill g log) (one : IsSoundList g (redec
       subst (λ p. IsAlong (graph_of g log) r.class x.class.0 x.time.0 r.ts p) (sym w.p2_is) a0 in
       let d = a.diagonal in
       let c = class_of_writer r.class x.class.0 a.by_own d in
-      let time = (a.time_is ∙ (grind arith) ∙ ap (λ b. wait_time b r) (sym a.diagonal.own_is)) in
+      let time = (a.time_is ∙ time_along a.by_own r ∙ ap (λ b. wait_time b r) (sym a.diagonal.own_is)) in
       let passes = w.passings x.class.0 (cond_waits g log r.class r.ts w.conds w.from u.place x w.since u.there) in
       let asks = asks_up g log x.class.0 h.permitted c.0 c.1 (of_passing g log x.class.0 passes) in
       let below = next_head g log r.class r.ts w.conds w.reader u.place x h one.fits w.up asks u.there c.0 c.1.to u.unmet in
@@ -196,11 +200,11 @@ module _ (g : Input) (log : Log) (h : IsStill g log) (one : IsSoundList g (redec
             let q : WaitingRead = read_number g log k.class k.ts k.conds from.0 in
             let b : IsAlong (graph_of g log) q.class k.cond.class.0 k.cond.time.0 q.ts q.p2 =
             cond_along g log k.class k.ts k.conds from.0 k.place k.cond from.1 k.there in
-            let held_time = (b.time_is ∙ (grind arith) ∙ ap (λ b. wait_time b q) (sym b.diagonal.own_is)) in
+            let held_time = (b.time_is ∙ time_along b.by_own q ∙ ap (λ b. wait_time b q) (sym b.diagonal.own_is)) in
             let o = b.diagonal in
             holder d.place d.diagonal d.at d.reader_is q (waiting_number g log k.class k.ts k.conds z k.reader from.0 from.1 up others) o.place o.diagonal o.at
             o.reader_is (o.writer_is ∙ k.names ∙ sym d.writer_is)
-            k.write (grind (arith, write_stamp)) (omega (arith, k.held, held_time)) (omega (arith, k.below, time)))
+            k.write (write_stamp g log x.class.0 k.reader.d k.write k.of k.txn k.changes one.fits.sound h.permitted k.write_is) (omega (arith, k.held, held_time)) (omega (arith, k.below, time)))
       ]
 
   pub none_declared : (c ts : ℕ) (conds : List Cond) → (c == 0) ≡ false → (r : IsReader g log c ts conds) → is_down r.d log ≡ false → PassingsUp g log c → ⊥
