@@ -1,9 +1,10 @@
 //! Which classes keep an attempt from its end: those for which its reads wait, and those that keep it
 //! behind its own writes.
-ghost use Rattle.std.specs.Prelude.{◌≡◌, IfOk};
+ghost use Rattle.std.specs.Prelude.{◌≡◌, ◌==◌, IfOk};
 ghost use Rattle.std.specs.List.{list_any};
+ghost use Rattle.sdd_graph.specs.Edges.{IsClassOf};
 ghost use Rattle.sdd_ask.specs.Flags.{flag_at, flags_of};
-ghost use Rattle.sdd_ask.specs.Queueing.{awaits, is_class, is_queued, meets, read_at_one};
+ghost use Rattle.sdd_ask.specs.Queueing.{awaits, is_queued, meets, read_at_one};
 
 use crate::flags::{CELLS, WIDTH, flag_at};
 use crate::needs::reads_at;
@@ -40,18 +41,16 @@ fn is_queued(catalogue: &Catalogue, waits: &[bool], c: u32, j: u32) -> bool
 fn meets(catalogue: &Catalogue, c: u32, r: u32) -> bool
     ensures { result ≡ meets catalogue.now c r }
 {
-    is_class(catalogue, c) && is_class(catalogue, r) && read_at_one(catalogue, c, r)
-}
-
-fn is_class(catalogue: &Catalogue, c: u32) -> bool
-    ensures { result ≡ is_class catalogue.now c }
-{
-    1 <= c && c <= catalogue.classes()
+    let classes = catalogue.classes();
+    if 1 <= c && c <= classes && 1 <= r && r <= classes {
+        return read_at_one(catalogue, c, r);
+    }
+    false
 }
 
 fn read_at_one(catalogue: &Catalogue, c: u32, r: u32) -> bool
-    requires { is_class catalogue.now c ≡ true }
-    requires other { is_class catalogue.now r ≡ true }
+    requires { IsClassOf catalogue.now c }
+    requires other { IsClassOf catalogue.now r }
     ensures { result ≡ read_at_one catalogue.now c r }
 {
     let others = catalogue.class(ClassNo(r)).reads.as_slice();
