@@ -114,14 +114,14 @@ u_holding g log q h sound applied idle e t l m =
     let holding : (counts t lu).holds ≡ suc (last_served s lu).commits = omega (arith, ahead, c.one_ahead, released) in
     (holding, omega (arith, holding, held_sent, c.got_hold, v.helds, v.holds_same))
 
-none_held : (g : Input) (log : Log) → IsStill g log → IsSoundCatalogue g.catalogue
+none_held : (g : Input) (log : Log) → IsStill g log → IsSoundCatalogue g.catalogue → active (setting_of g U) 0 (local_of g U log) ≡ None
     → ((q : Queued) → head_of (queue (setting_of g U) 0 (local_of g U log)) ≡ Some q → AreHolding g log)
     → (o : Option Queued) → head_of (queue (setting_of g U) 0 (local_of g U log)) ≡ o → o ≡ None
-none_held g log h sound holding o e = grind (arith, all_served, sound_whole, zero_head, list_all, all_true, in_mapped, in_range, holding, eq-eqb, u_still, if_none, not_both)
+none_held g log h sound inactive holding o e = grind (arith, all_served, sound_whole, zero_head, list_all, all_true, in_mapped, in_range, holding, eq-eqb, u_still, if_none, not_both)
 
 u_no_queue : (g : Input) (log : Log) → IsStill g log → IsSoundCatalogue g.catalogue → AreServedApplied g log → IsIdle g log → (o : Option Queued)
     → head_of (queue (setting_of g U) 0 (local_of g U log)) ≡ o → o ≡ None
-u_no_queue g log h sound applied idle o e = none_held g log h sound (λ q f. u_holding g log q h sound applied idle f) o e
+u_no_queue g log h sound applied idle o e = none_held g log h sound (idle.no_attempt 0 (omega arith)) (λ q f. u_holding g log q h sound applied idle f) o e
 
 -- so no T is on hold, where U has applied what it committed; and one that isn't has nothing in the queue of an idle class
 
