@@ -2,13 +2,15 @@
 pub use Rattle.sdd_acyclic.proofs.Covers.{class_is}
 pub use Rattle.sdd_ask.specs.Flags.{Relation, Tells, closed, flag_at, flags_of, through}
 pub use Rattle.sdd_ask.specs.Needed.{is_own, leads_to, needed_by, needs_by}
-pub use Rattle.sdd_ask.specs.Needs.{Needs, TellsNeeds}
-pub use Rattle.sdd_ask.specs.Needs.Needs.{attempts, holds, reads_at, runs_at, waits}
+pub use Rattle.sdd_ask.specs.Needs.{TellsNeeds}
+pub use Rattle.sdd_outage.specs.Needs.{Needs}
+pub use Rattle.sdd_outage.specs.Needs.Needs.{attempts, holds, queues, reads_at, runs_at, waits}
+pub use Rattle.sdd_ask.specs.Queueing.{awaits, is_class, is_queued, meets, read_at_one}
 pub use Rattle.sdd_ask.specs.Reaching.{begins, is_held, moves}
 pub use Rattle.sdd_ask.specs.Robust.{asks_for_own_time, first_p3, isolation_text, reason_line}
-pub use Rattle.sdd_ask.specs.Tasks.{Task, attempt, passing}
+pub use Rattle.sdd_outage.specs.Tasks.{Task, attempt, passing}
 pub use Rattle.sdd_ask.specs.Texts.{class_lines, dm_word, module_words, needs_text, task_line, tm_word}
-pub use Rattle.sdd_ask.specs.Waiting.{asks, is_wait, waits_for}
+pub use Rattle.sdd_outage.specs.Waiting.{asks, is_wait, waits_for}
 pub use Rattle.sdd_ask.specs.declared.flags.TheConstants.{CELLS, WIDTH}
 pub use Rattle.sdd_base.proofs.Membership.{Contains-here, Contains-later}
 pub use Rattle.sdd_base.specs.Numbers.{class_no, dm_no, tm_no}

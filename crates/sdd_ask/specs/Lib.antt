@@ -4,8 +4,7 @@ pub mod Flags
 pub mod Naming
 pub mod Needed
 pub mod Needs
+pub mod Queueing
 pub mod Reaching
 pub mod Robust
-pub mod Tasks
 pub mod Texts
-pub mod Waiting

@@ -6,7 +6,7 @@ use Rattle.sdd_base.specs.declared.site.Site.TheVariants.{U, T, D}
 use Rattle.sdd_catalog.specs.Catalogue.{Catalogue, class_at}
 use Rattle.sdd_graph.specs.Graph.{classes_of}
 use Rattle.sdd_ask.specs.Flags.{Relation}
-use Rattle.sdd_ask.specs.Tasks.{Task, attempt, passing}
+use Rattle.sdd_outage.specs.Tasks.{Task, attempt, passing}
 
 -- whether the class runs or reads at the module
 abbrev pub is_own : Catalogue → ℕ → Site → Bool

@@ -12,10 +12,10 @@ is_held waits j m = list_any (λ r. waits r j && waits r m) (range_with_len 0 WI
 abbrev pub moves : Relation → Relation
 moves waits j m = (j == m) || (waits j m || is_held waits j m)
 
--- by a wait to what the passing of the other leads to
+-- by an await to what the passing of the other leads to
 abbrev pub goes_on : Relation → Relation → Relation
-goes_on waits passing c k = list_any (λ j. waits c j && passing j k) (range_with_len 0 WIDTH)
+goes_on awaits passing c k = list_any (λ j. awaits c j && passing j k) (range_with_len 0 WIDTH)
 
 -- from an attempt of a class: to itself, or on
 abbrev pub begins : Relation → Relation → Relation
-begins waits passing c k = (c == k) || goes_on waits passing c k
+begins awaits passing c k = (c == k) || goes_on awaits passing c k

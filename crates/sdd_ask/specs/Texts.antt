@@ -8,7 +8,7 @@ use Rattle.sdd_base.specs.declared.site.Site.TheVariants.{T, D}
 use Rattle.sdd_catalog.specs.Catalogue.{Catalogue, numbers_to}
 use Rattle.sdd_graph.specs.Graph.{classes_of}
 use Rattle.sdd_ask.specs.Naming.{class_name}
-use Rattle.sdd_ask.specs.Tasks.{Task, attempt, passing}
+use Rattle.sdd_outage.specs.Tasks.{Task, attempt, passing}
 
 -- a module, with a space before it, where it passes the test
 abbrev pub tm_word : (Site → Bool) → ℕ → List ℕ

@@ -9,6 +9,7 @@ mod flags;
 mod law;
 mod naming;
 mod needs;
+mod queueing;
 mod reaching;
 mod robust;
 mod waiting;

@@ -11,6 +11,7 @@ ghost use Rattle.sdd_ask.specs.Texts as shown;
 
 use crate::flags::{closed, flag_at};
 use crate::naming::put_class;
+use crate::queueing::awaits;
 use crate::reaching::{begins, moves};
 use crate::waiting::waits;
 use sdd_base::{ClassNo, DmNo, NoMemory, Site, TmNo};
@@ -30,7 +31,8 @@ pub fn needs_text(alloc: Global, catalogue: &Catalogue) -> Result<Vec<u8>, NoMem
     let waits = waits(alloc, table.entries())?;
     let moves = moves(alloc, &waits)?;
     let passing = closed(alloc, &moves)?;
-    let begun = begins(alloc, &waits, &passing)?;
+    let awaited = awaits(alloc, catalogue, &waits)?;
+    let begun = begins(alloc, &awaited, &passing)?;
     let mut text = Vec::new(alloc);
     put_needs(&mut text, catalogue, &begun, &passing)?;
     Ok(text)
@@ -188,7 +190,7 @@ fn is_own(catalogue: &Catalogue, class: u32, site: Site) -> bool
     }
 }
 
-fn reads_at(reads: &[Read], dm: DmNo) -> bool
+pub(crate) fn reads_at(reads: &[Read], dm: DmNo) -> bool
     ensures { result ≡ list_any (λ read. read.at.0 == dm.0) reads.now }
 {
     reads.iter().any(|read| read.at.0 == dm.0)

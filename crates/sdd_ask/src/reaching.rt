@@ -33,26 +33,30 @@ fn is_held(waits: &[bool], j: u32, m: u32) -> bool
 }
 
 /// From which class's attempt it leads to which class's passing, or to itself.
-pub(crate) fn begins(alloc: Global, waits: &[bool], passing: &[bool]) -> Result<Vec<bool>, NoMemory>
+pub(crate) fn begins(
+    alloc: Global,
+    awaits: &[bool],
+    passing: &[bool],
+) -> Result<Vec<bool>, NoMemory>
     ensures { IfOk result (λ flags.
-        flags.items ≡ flags_of (begins (flag_at waits.now) (flag_at passing.now))) }
+        flags.items ≡ flags_of (begins (flag_at awaits.now) (flag_at passing.now))) }
 {
     Ok(
         (0..CELLS)
-            .map(|cell| is_begun(waits, passing, cell / WIDTH, cell % WIDTH))
+            .map(|cell| is_begun(awaits, passing, cell / WIDTH, cell % WIDTH))
             .collect(alloc)?,
     )
 }
 
-fn is_begun(waits: &[bool], passing: &[bool], c: u32, k: u32) -> bool
-    ensures { result ≡ begins (flag_at waits.now) (flag_at passing.now) c k }
+fn is_begun(awaits: &[bool], passing: &[bool], c: u32, k: u32) -> bool
+    ensures { result ≡ begins (flag_at awaits.now) (flag_at passing.now) c k }
 {
-    c == k || goes_on(waits, passing, c, k)
+    c == k || goes_on(awaits, passing, c, k)
 }
 
-/// Whether the class waits for one whose passing leads there.
-fn goes_on(waits: &[bool], passing: &[bool], c: u32, k: u32) -> bool
-    ensures { result ≡ goes_on (flag_at waits.now) (flag_at passing.now) c k }
+/// Whether an attempt of the class awaits one whose passing leads there.
+fn goes_on(awaits: &[bool], passing: &[bool], c: u32, k: u32) -> bool
+    ensures { result ≡ goes_on (flag_at awaits.now) (flag_at passing.now) c k }
 {
-    (0..WIDTH).any(|j| flag_at(waits, c, j) && flag_at(passing, j, k))
+    (0..WIDTH).any(|j| flag_at(awaits, c, j) && flag_at(passing, j, k))
 }

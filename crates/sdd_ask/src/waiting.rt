@@ -2,7 +2,7 @@
 ghost use Rattle.std.specs.Prelude.{ℕ, ◌≡◌, ◌<◌, ◌||◌, All, IfOk, length};
 ghost use Rattle.sdd_graph.specs.Edges.{NamesClasses};
 ghost use Rattle.sdd_ask.specs.Flags.{Tells, flag_at};
-ghost use Rattle.sdd_ask.specs.Waiting.{asks, is_wait, waits_for};
+ghost use Rattle.sdd_outage.specs.Waiting.{asks, is_wait, waits_for};
 
 use crate::flags::{CELLS, WIDTH};
 use sdd_base::NoMemory;

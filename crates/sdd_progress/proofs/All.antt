@@ -120,8 +120,13 @@ pub use Rattle.sdd_progress.specs.Examples.{all_lost, crossing_with, given_all_l
 pub use Rattle.sdd_progress.specs.Few.{AreFewRejected, is_reject_of, is_rejected, is_rejected_start, rejected_of}
 pub use Rattle.sdd_progress.specs.Finished.{IsFinished, IsIdle}
 pub use Rattle.sdd_progress.specs.Going.{AllAskParts, AllHaveParts, CountsRead, IsCounted, IsGoing, IsRead, ReducesRead, readers}
+pub use Rattle.sdd_outage.specs.Needs.{Needs}
+pub use Rattle.sdd_outage.specs.Needs.Needs.{attempts as attempts_need, holds as held_needs, queues as queued_needs, reads_at as read_needs, waits as waits_need}
+pub use Rattle.sdd_outage.specs.Tasks.{attempt as attempt_task, passing as passing_task}
+pub use Rattle.sdd_outage.specs.Waiting.{asks as asks_by, is_wait, waits_for as waits_by}
+pub use Rattle.sdd_progress.specs.Outage.{CostsNoMore, IsSubmittedIn, NeedsAreUp, UndeclaredAreDone, table_in_force}
 pub use Rattle.sdd_progress.specs.Premises.{HasOneTable, HasSoundLists, IsIdleAtRedeclares, IsSoundList, IsUpAtRedeclares}
-pub use Rattle.sdd_progress.specs.Quiet.{IsQuiet, at_home, at_module}
+pub use Rattle.sdd_progress.specs.Quiet.{IsQuiet, IsStill, at_home, at_module}
 pub use Rattle.sdd_progress.specs.Rejects.{KeepsRejects}
 pub use Rattle.sdd_progress.specs.Settled.{IsAtEnd, IsSettled}
 pub use Rattle.sdd_progress.specs.Timely.{AreTimely}

@@ -1,5 +1,5 @@
 -- Where all is finished, every transaction that was submitted is committed, and nothing is pending.
-use Rattle.sdd_progress.proofs.All.{Act, AllCommitted, AreNumbered, Bool, Catalogue, Change, Commit, CommitContent, Did, Does, HasSoundLists, History, Input, IsClass, IsEraOf, IsFinished, IsNotLeft, IsPermitted, IsRecordAt, IsSubmitIn, IsSubmitted, List, Log, Mark, None, Option, Queued, Rec, Records, Reply, Site, Some, Submit, Submits, Submitted, Submitting, T, TmNo, Txn, WasCommitted, [], all_new, ap, arith, class_at, class_for, commit_act_in, commit_rec, cons_none, cons_option, covered, covers_home, dec_le, false, filter_map, for_class, further_back, given_at, history, home, home_by, home_fair, home_setting, inl, inr, is_committed, length, list_any, member_there, nth_era, option_map, or_left, or_right, permitted_before, place_of_act, positive, queue, queue_is, queued, recorded_there, redeclares, refl, same_or_not, slice_get, submit_in, submit_local, submits_of, submitted_in, subst, suc, sym, tm_no, true, txn_no, zero, ℕ, ◌++◌, ◌-◌, ◌∙◌, ◌∷◌, ◌≡◌, ◌⊎◌}
+use Rattle.sdd_progress.proofs.All.{Act, AllCommitted, AreNumbered, Bool, Catalogue, Change, Commit, CommitContent, Did, Does, HasSoundLists, History, Input, IsClass, IsEraOf, IsFinished, IsNotLeft, IsPermitted, IsRecordAt, IsSubmitIn, IsSubmitted, IsSubmittedIn, List, Log, Mark, None, Option, Queued, Rec, Records, Reply, Site, Some, Submit, Submits, Submitted, Submitting, T, TmNo, Txn, WasCommitted, [], all_new, ap, arith, class_at, class_for, commit_act_in, commit_rec, cons_none, cons_option, covered, covers_home, dec_le, false, filter_map, for_class, further_back, given_at, history, home, home_by, home_fair, home_setting, inl, inr, is_committed, length, list_any, member_there, nth_era, option_map, or_left, or_right, permitted_before, place_of_act, positive, queue, queue_is, queued, recorded_there, redeclares, refl, same_or_not, slice_get, submit_in, submit_local, submits_of, submitted_in, subst, suc, sym, tm_no, true, txn_no, zero, ℕ, ◌++◌, ◌-◌, ◌∙◌, ◌∷◌, ◌≡◌, ◌⊎◌}
 use Rattle.sdd_progress.proofs.SinceRedeclare.{redeclares_back}
 use Rattle.sdd_obligations.specs.All.{txn_at}
 use Rattle.sdd_obligations.specs.logs.Due.{home_of}
@@ -77,42 +77,57 @@ pub record IsAtHome (g : Input) (log : Log) (n : ℕ) : Type 0 where
   pub place : ℕ
   pub there : slice_get (submits_of (home_setting g class) class (at_home g class log)) place ≡ Some (n, text)
 
-pub submitted_at_home : (g : Input) (log : Log) → IsPermitted g log → HasSoundLists g log → AreNumbered g log
-    → (n k : ℕ) → IsSubmitted (history log) n k → IsAtHome g log n
-submitted_at_home g log h lists numbered n k submitted =
-    let s = submit_in g log n k h submitted in
+pub at_home_by : (g : Input) (log : Log) → IsPermitted g log → HasSoundLists g log → (n c : ℕ) → IsSubmittedIn g log n c
+    → (x : IsAtHome g log n) × (x.class ≡ c)
+at_home_by g log h lists n c s =
     let x = given_at g s.rest s.at n (permitted_before g s.later (Submitted s.at n ∷ s.rest) (subst (IsPermitted g) s.is h)) in
-    let t = text_of g log n k h numbered s in
     let era : Catalogue = (nth_era g (redeclares s.rest)).catalogue in
     let back = redeclares_back s.later (Submitted s.at n ∷ s.rest) in
     let of : IsEraOf g.catalogue era = (lists (redeclares s.rest) (omega (arith, back, ap redeclares s.is))).era in
-    let c : ℕ = class_for era t.text in
     let at : s.at ≡ home g.catalogue c =
-    x.at_is ∙ (λ j. home_of (nth_era g (sym (ap redeclares x.is) j)).catalogue (t.is j)) ∙ home_is g.catalogue era of t.text c refl in
+    x.at_is ∙ (λ j. home_of (nth_era g (sym (ap redeclares x.is) j)).catalogue (s.text_is j))
+    ∙ ap (λ k. home_by k s.text) (sym s.class_is) ∙ home_is g.catalogue era of s.text c s.class_is in
     let is : log ≡ s.later ++ Submitted (home g.catalogue c) n ∷ s.rest = s.is ∙ ap (λ a. s.later ++ Submitted a n ∷ s.rest) at in
-    let m = submit_local g c n t.text s.later s.rest t.is in
-    let local : at_home g c log ≡ m.0 ++ Submits n t.text ∷ at_home g c s.rest = ap (at_home g c) is ∙ m.1 in
-    let i = submitted_in (home_setting g c) c n t.text m.0 (at_home g c s.rest) (for_class g c s.rest t.text refl) in
-    record {
-      text = t.text;
+    let m = submit_local g c n s.text s.later s.rest s.text_is in
+    let local : at_home g c log ≡ m.0 ++ Submits n s.text ∷ at_home g c s.rest = ap (at_home g c) is ∙ m.1 in
+    let i = submitted_in (home_setting g c) c n s.text m.0 (at_home g c s.rest) (for_class g c s.rest s.text (sym s.class_is)) in
+    let there : IsAtHome g log n = record {
+      text = s.text;
       class = c;
-      class_is = class_within g.catalogue era of t.text;
+      class_is = subst (IsClass g.catalogue) (sym s.class_is) (class_within g.catalogue era of s.text);
       later = s.later;
       rest = s.rest;
       given = is;
       place = i.0;
-      there = subst (λ l. slice_get (submits_of (home_setting g c) c l) i.0 ≡ Some (n, t.text)) (sym local) i.1;
-    }
+      there = subst (λ l. slice_get (submits_of (home_setting g c) c l) i.0 ≡ Some (n, s.text)) (sym local) i.1;
+    } in
+    (there, refl)
 
-pub all_committed : (g : Input) (log : Log) → IsPermitted g log → HasSoundLists g log → AreNumbered g log → IsFinished g log → AllCommitted (history log)
-all_committed g log h lists numbered done n k submitted =
-    let x = submitted_at_home g log h lists numbered n k submitted in
+pub submitted_at_home : (g : Input) (log : Log) → IsPermitted g log → HasSoundLists g log → AreNumbered g log
+    → (n k : ℕ) → IsSubmitted (history log) n k → IsAtHome g log n
+submitted_at_home g log h lists numbered n k submitted =
+    let s = submit_in g log n k h submitted in
+    let t = text_of g log n k h numbered s in
+    let class : ℕ = class_for (nth_era g (redeclares s.rest)).catalogue t.text in
+    let by : IsSubmittedIn g log n class =
+    record { later = s.later; at = s.at; rest = s.rest; is = s.is; text = t.text; text_is = t.is; class_is = refl } in
+    (at_home_by g log h lists n class by).0
+
+-- so it is committed, where nothing is left in the queue of its class
+pub committed_where_none_queued : (g : Input) (log : Log) (n : ℕ) → IsPermitted g log → (x : IsAtHome g log n)
+    → queue (home_setting g x.class) x.class (at_home g x.class log) ≡ [] → WasCommitted (history log) n
+committed_where_none_queued g log n h x none =
     let c = x.class in
     let q = queue_is (home_setting g c) c (at_home g c log) (home_fair g c log h) (all_new g (home g.catalogue c) log h) in
     let out : queued c (at_home g c log) (n, x.text) ≡ None =
     none_kept (queued c (at_home g c log)) (submits_of (home_setting g c) c (at_home g c log)) x.place
-    (n, x.text) (sym q.is ∙ done.no_queue c x.class_is) x.there in
+    (n, x.text) (sym q.is ∙ none) x.there in
     committed_there g log c n (grind arith)
+
+pub all_committed : (g : Input) (log : Log) → IsPermitted g log → HasSoundLists g log → AreNumbered g log → IsFinished g log → AllCommitted (history log)
+all_committed g log h lists numbered done n k submitted =
+    let x = submitted_at_home g log h lists numbered n k submitted in
+    committed_where_none_queued g log n h x (done.no_queue x.class x.class_is)
 
 -- a transaction that was submitted is committed, or stands in the queue of its class
 

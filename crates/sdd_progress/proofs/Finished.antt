@@ -1,11 +1,11 @@
 -- Where nothing goes on and all is idle, no transaction module is on hold and no transaction is in a queue.
-use Rattle.sdd_progress.proofs.All.{Bool, Catalogue, Input, IsClass, IsFinished, IsIdle, IsQuiet, IsSoundCatalogue, Log, None, Option, Queued, Some, T, U, [], active, ap, arith, at_home, at_place, both, chain, chain_at, commit_act, counts, dec_le, eq-eqb, eqb-true, false, from_u, handed_helds, handed_holds, hands_from, head_of, holds, home, if◌then◌else◌, in_filtered, in_mapped, in_range, inl, inr, is_a_held, is_a_hold, is_a_release, is_link, is_none, last_served, le-ltb, list_all, local_of, lt-ltb, none_not_some, not, not_both, not_zero, place_of_act, positive, puts_to, queue, refl, same_or_not, setting_of, slice_get, sound_whole, subst, suc, sym, t_helds, t_table, tally, tm_no, true, u_table, zero_head, ℕ, ◌-◌, ◌<◌, ◌==◌, ◌∙◌, ◌≡◌, ◌≤◌}
-use Rattle.sdd_progress.proofs.Dones.{dones_counted}
+use Rattle.sdd_progress.proofs.All.{Bool, Catalogue, Input, IsClass, IsFinished, IsIdle, IsQuiet, IsSoundCatalogue, IsStill, Log, None, Option, Queued, Some, T, U, [], active, ap, arith, at_home, at_place, both, chain, chain_at, commit_act, counts, dec_le, eq-eqb, eqb-true, false, from_u, handed_helds, handed_holds, hands_from, head_of, holds, home, if◌then◌else◌, in_filtered, in_mapped, in_range, inl, inr, is_a_held, is_a_hold, is_a_release, is_link, is_none, last_served, le-ltb, list_all, local_of, lt-ltb, none_not_some, not, not_both, not_zero, place_of_act, positive, puts_to, queue, refl, same_or_not, setting_of, slice_get, sound_whole, subst, suc, sym, t_helds, t_table, tally, tm_no, true, u_table, zero_head, ℕ, ◌-◌, ◌<◌, ◌==◌, ◌∙◌, ◌≡◌, ◌≤◌}
+use Rattle.sdd_progress.proofs.Dones.{AreServedApplied, dones_counted, idle_applied}
 use Rattle.sdd_progress.proofs.Handed.{all_handed}
 use Rattle.sdd_progress.proofs.Holds.{holds_needed, last_commit}
 use Rattle.sdd_progress.proofs.Lists.{all_true, if_none, no_head}
 use Rattle.sdd_progress.proofs.NoRejects.{all_served}
-use Rattle.sdd_progress.proofs.Still.{run_at, runs_place, t_site, t_still, u_still}
+use Rattle.sdd_progress.proofs.Still.{run_at, runs_place, still_of, t_site, t_still, u_still}
 use Rattle.sdd_obligations.specs.site_module.SiteLog as site
 use Rattle.sdd_obligations.specs.tm.Due as tm
 use Rattle.sdd_obligations.specs.tm.Views as tm_views
@@ -22,14 +22,14 @@ pub record IsLevel (g : Input) (log : Log) (t : ℕ) : Type 0 where
 u_to_t : (cat : Catalogue) (t : ℕ) → 1 ≤ t → t ≤ cat.tms → (is_link cat.tms cat.dms U (T (tm_no t)) ≡ true) × (is_link cat.tms cat.dms (T (tm_no t)) U ≡ true)
 u_to_t cat t l m = let s = t_site cat t l m in (rw s refl, rw s refl)
 
-level : (g : Input) (log : Log) (t : ℕ) → IsQuiet g log → 1 ≤ t → t ≤ g.catalogue.tms → IsLevel g log t
+level : (g : Input) (log : Log) (t : ℕ) → IsStill g log → 1 ≤ t → t ≤ g.catalogue.tms → IsLevel g log t
 level g log t h l m =
     let at = T (tm_no t) in
     let lu : site.Log = local_of g U log in
     let lt : site.Log = local_of g at log in
     let link = u_to_t g.catalogue t l m in
-    let down : hands_from U lt ≡ puts_to at lu = all_handed g log U at h link.0 in
-    let up : hands_from at lu ≡ puts_to U lt = all_handed g log at U h link.1 in
+    let down : hands_from U lt ≡ puts_to at lu = all_handed g log U at h refl link.0 in
+    let up : hands_from at lu ≡ puts_to U lt = all_handed g log at U h refl link.1 in
     let c = chain (setting_of g U) (t - 1) t lu (at_place g.catalogue.tms t l m) (u_table g log h.permitted) in
     let got = handed_holds lt (from_u g at log h.permitted) in
     record {
@@ -40,9 +40,9 @@ level g log t h l m =
 
 -- all that U served is released
 
-all_released : (g : Input) (log : Log) (t : ℕ) → IsQuiet g log → IsSoundCatalogue g.catalogue → IsIdle g log → 1 ≤ t → t ≤ g.catalogue.tms
+all_released : (g : Input) (log : Log) (t : ℕ) → IsStill g log → IsSoundCatalogue g.catalogue → AreServedApplied g log → 1 ≤ t → t ≤ g.catalogue.tms
     → (counts t (local_of g U log)).releases ≡ (last_served (setting_of g U) (local_of g U log)).commits
-all_released g log t h sound idle l m =
+all_released g log t h sound applied l m =
     let s = setting_of g U in
     let lu : site.Log = local_of g U log in
     let place = at_place g.catalogue.tms t l m in
@@ -51,7 +51,8 @@ all_released g log t h sound idle l m =
       | no p ↦ (let less : (counts t lu).releases < (last_served s lu).commits = omega (arith, p) in
           let last = last_commit s lu (u_table g log h.permitted) (omega (arith, less)) in
           let at = place_of_act g U log last.later (commit_act g.catalogue last.bases 0 last.attempt) last.before last.is in
-          let dones = dones_counted g log (t - 1) t at.later at.rest last.bases last.attempt h sound idle place at.is last.ts_is in
+          let dones = dones_counted g log (t - 1) t at.later at.rest last.bases last.attempt h sound applied place at.is
+          (subst (λ l. active s 0 l ≡ Some last.attempt) (sym at.local_is) last.active_is) last.ts_is in
           let due : um.release_due g.catalogue (um_views.view_of s lu) (counts t lu) ≡ None = (u_still g log h).releases (t - 1) t place in
           let off = if_none _ _ due in
           absurd (not_both _ (both _ _ (lt-ltb _ _ less) (eq-eqb _ _ dones)) off))
@@ -72,7 +73,7 @@ all_idle g log t idle l =
     let none = idle.no_attempt r.0 run.2 in
     ap tm_views.is_idle (sym r.2) ∙ ap is_none (subst (λ y. active (setting_of g y) r.0 (local_of g y log) ≡ None) run.1 none)))
 
-held_of_hold : (g : Input) (log : Log) (t : ℕ) → IsQuiet g log → IsIdle g log → 1 ≤ t → t ≤ g.catalogue.tms
+held_of_hold : (g : Input) (log : Log) (t : ℕ) → IsStill g log → IsIdle g log → 1 ≤ t → t ≤ g.catalogue.tms
     → (holds (local_of g (T (tm_no t)) log)).releases < (holds (local_of g (T (tm_no t)) log)).holds
     → (holds (local_of g (T (tm_no t)) log)).holds ≤ (holds (local_of g (T (tm_no t)) log)).helds
 held_of_hold g log t h idle l m on =
@@ -93,14 +94,14 @@ AreHolding g log =
     (last_served (setting_of g U) (local_of g U log)).commits)
     × ((counts t (local_of g U log)).helds ≡ suc (last_served (setting_of g U) (local_of g U log)).commits)
 
-u_holding : (g : Input) (log : Log) (q : Queued) → IsQuiet g log → IsSoundCatalogue g.catalogue → IsIdle g log
+u_holding : (g : Input) (log : Log) (q : Queued) → IsStill g log → IsSoundCatalogue g.catalogue → AreServedApplied g log → IsIdle g log
     → head_of (queue (setting_of g U) 0 (local_of g U log)) ≡ Some q → AreHolding g log
-u_holding g log q h sound idle e t l m =
+u_holding g log q h sound applied idle e t l m =
     let s = setting_of g U in
     let lu : site.Log = local_of g U log in
     let c = chain_at g (tm_no t) log l m h.permitted in
     let v = level g log t h l m in
-    let released = all_released g log t h sound idle l m in
+    let released = all_released g log t h sound applied l m in
     let due : um.hold_to (counts t lu) (Some q) ≡ None =
     subst (λ o. um.hold_to (counts t lu) o ≡ None) e ((u_still g log h).holds (t - 1) t (at_place g.catalogue.tms t l m)) in
     let apart : ((counts t lu).releases == (counts t lu).holds) ≡ false = if_none _ _ due in
@@ -113,22 +114,28 @@ u_holding g log q h sound idle e t l m =
     let holding : (counts t lu).holds ≡ suc (last_served s lu).commits = omega (arith, ahead, c.one_ahead, released) in
     (holding, omega (arith, holding, held_sent, c.got_hold, v.helds, v.holds_same))
 
-u_no_queue : (g : Input) (log : Log) → IsQuiet g log → IsSoundCatalogue g.catalogue → IsIdle g log → (o : Option Queued)
+none_held : (g : Input) (log : Log) → IsStill g log → IsSoundCatalogue g.catalogue → active (setting_of g U) 0 (local_of g U log) ≡ None
+    → ((q : Queued) → head_of (queue (setting_of g U) 0 (local_of g U log)) ≡ Some q → AreHolding g log)
+    → (o : Option Queued) → head_of (queue (setting_of g U) 0 (local_of g U log)) ≡ o → o ≡ None
+none_held g log h sound inactive holding o e = grind (arith, all_served, sound_whole, zero_head, list_all, all_true, in_mapped, in_range, holding, eq-eqb, u_still, if_none, not_both)
+
+u_no_queue : (g : Input) (log : Log) → IsStill g log → IsSoundCatalogue g.catalogue → AreServedApplied g log → IsIdle g log → (o : Option Queued)
     → head_of (queue (setting_of g U) 0 (local_of g U log)) ≡ o → o ≡ None
-u_no_queue g log h sound idle o e = grind (arith, all_served, sound_whole, zero_head, list_all, all_true, in_mapped, in_range, u_holding, eq-eqb, u_still, if_none, not_both)
+u_no_queue g log h sound applied idle o e = none_held g log h sound (idle.no_attempt 0 (omega arith)) (λ q f. u_holding g log q h sound applied idle f) o e
 
--- so no T is on hold, and has nothing in its queues
+-- so no T is on hold, where U has applied what it committed; and one that isn't has nothing in the queue of an idle class
 
-off_hold : (g : Input) (log : Log) (t : ℕ) → IsQuiet g log → IsSoundCatalogue g.catalogue → IsIdle g log → 1 ≤ t → t ≤ g.catalogue.tms
+pub off_hold : (g : Input) (log : Log) (t : ℕ) → IsStill g log → IsSoundCatalogue g.catalogue → AreServedApplied g log
+    → head_of (queue (setting_of g U) 0 (local_of g U log)) ≡ None → 1 ≤ t → t ≤ g.catalogue.tms
     → (holds (local_of g (T (tm_no t)) log)).holds ≡ (holds (local_of g (T (tm_no t)) log)).releases
-off_hold g log t h sound idle l m =
+off_hold g log t h sound applied none l m =
     let s = setting_of g U in
     let lu : site.Log = local_of g U log in
     let v = level g log t h l m in
-    let released = all_released g log t h sound idle l m in
+    let released = all_released g log t h sound applied l m in
     elim (holds_needed s (t - 1) t lu (at_place g.catalogue.tms t l m) (u_table g log h.permitted)) [
       | inl p ↦ omega (arith, p, v.holds_same, v.releases, released, (chain_at g (tm_no t) log l m h.permitted).in_turn)
-      | inr q ↦ absurd (none_not_some (head_of (queue s 0 lu)) q.0 (u_no_queue g log h sound idle (head_of (queue s 0 lu)) refl) q.1)
+      | inr q ↦ absurd (none_not_some (head_of (queue s 0 lu)) q.0 none q.1)
     ]
 
 no_start : (cat : Catalogue) (v : tm_views.View) (c : ℕ) (o : Option Queued) → tm.start_of cat v c o ≡ None → o ≡ None
@@ -137,26 +144,47 @@ no_start cat v c o e = grind arith
 if_started : {A : Type 0} (b : Bool) (o : Option A) → b ≡ true → (if b then o else None) ≡ None → o ≡ None
 if_started b o e f = grind arith
 
-t_no_queue : (g : Input) (log : Log) (c t : ℕ) → IsQuiet g log → IsSoundCatalogue g.catalogue → IsIdle g log → 1 ≤ t → t ≤ g.catalogue.tms → (j : ℕ)
+t_no_queue : (g : Input) (log : Log) (c t : ℕ) → IsStill g log
+    → (holds (local_of g (T (tm_no t)) log)).holds ≡ (holds (local_of g (T (tm_no t)) log)).releases → 1 ≤ t → t ≤ g.catalogue.tms → (j : ℕ)
     → slice_get (tm_views.runs (setting_of g (T (tm_no t)))) j ≡ Some c → active (setting_of g (T (tm_no t))) c (local_of g (T (tm_no t)) log) ≡ None
     → queue (setting_of g (T (tm_no t))) c (local_of g (T (tm_no t)) log) ≡ []
-t_no_queue g log c t h sound idle l m j i none =
+t_no_queue g log c t h off l m j i none =
     let s = setting_of g (T (tm_no t)) in
     let lt : site.Log = local_of g (T (tm_no t)) log in
-    let ready = both _ _ (ap not (le-ltb _ _ (let e = off_hold g log t h sound idle l m in omega (arith, e)))) (ap is_none none) in
+    let ready = both _ _ (ap not (le-ltb _ _ (omega (arith, off)))) (ap is_none none) in
     no_head (queue s c lt) (no_start g.catalogue (tm_views.view_of s lt) c (head_of (queue s c lt))
     (if_started _ _ ready ((t_still g log t h l m).starts j c i)))
 
+-- of a declared class whose module isn't on hold
+pub none_queued : (g : Input) (log : Log) (c : ℕ) → IsStill g log → IsSoundCatalogue g.catalogue → (c == 0) ≡ false → IsClass g.catalogue c
+    → (holds (at_home g c log)).holds ≡ (holds (at_home g c log)).releases → active (setting_of g (home g.catalogue c)) c (at_home g c log) ≡ None
+    → queue (setting_of g (home g.catalogue c)) c (at_home g c log) ≡ []
+none_queued g log c h sound z l off none =
+    let r = run_at g.catalogue c sound z l in
+    let j = runs_place g c r.t (positive c z) l r.number_is in
+    let here = subst (λ y. (holds (local_of g y log)).holds ≡ (holds (local_of g y log)).releases) r.home_is off in
+    let idle = subst (λ y. active (setting_of g y) c (local_of g y log) ≡ None) r.home_is none in
+    subst (λ y. queue (setting_of g y) c (local_of g y log) ≡ []) (sym r.home_is) (t_no_queue g log c r.t h here r.from r.to j.0 j.1 idle)
+
+pub off_hold_at : (g : Input) (log : Log) (c : ℕ) → IsStill g log → IsSoundCatalogue g.catalogue → AreServedApplied g log
+    → head_of (queue (setting_of g U) 0 (local_of g U log)) ≡ None → (c == 0) ≡ false → IsClass g.catalogue c
+    → (holds (at_home g c log)).holds ≡ (holds (at_home g c log)).releases
+off_hold_at g log c h sound applied none z l =
+    let r = run_at g.catalogue c sound z l in
+    subst (λ y. (holds (local_of g y log)).holds ≡ (holds (local_of g y log)).releases) (sym r.home_is)
+    (off_hold g log r.t h sound applied none r.from r.to)
+
 pub finished : (g : Input) (log : Log) → IsQuiet g log → IsSoundCatalogue g.catalogue → IsIdle g log → IsFinished g log
-finished g log h sound idle = record {
-  idle = idle;
-  no_queue = λ c l. elim (same_or_not c 0) [
-    | inl p ↦ subst (λ k. queue (setting_of g (home g.catalogue k)) k (at_home g k log) ≡ []) (sym p)
-        (no_head (queue (setting_of g U) 0 (local_of g U log)) (u_no_queue g log h sound idle (head_of (queue (setting_of g U) 0 (local_of g U log))) refl))
-    | inr p ↦ (let r = run_at g.catalogue c sound p l in
-        let j = runs_place g c r.t (positive c p) l r.number_is in
-        let none = subst (λ y. active (setting_of g y) c (local_of g y log) ≡ None) r.home_is (idle.no_attempt c l) in
-        subst (λ y. queue (setting_of g y) c (local_of g y log) ≡ []) (sym r.home_is) (t_no_queue g log c r.t h sound idle r.from r.to j.0 j.1 none))
-  ];
-  off_hold = λ t l m. off_hold g log t h sound idle l m;
-}
+finished g log quiet sound idle =
+    let h = still_of g log quiet in
+    let applied = idle_applied g log quiet sound idle in
+    let none = u_no_queue g log h sound applied idle (head_of (queue (setting_of g U) 0 (local_of g U log))) refl in
+    record {
+      idle = idle;
+      no_queue = λ c l. elim (same_or_not c 0) [
+        | inl p ↦ subst (λ k. queue (setting_of g (home g.catalogue k)) k (at_home g k log) ≡ []) (sym p)
+            (no_head (queue (setting_of g U) 0 (local_of g U log)) none)
+        | inr p ↦ none_queued g log c h sound p l (off_hold_at g log c h sound applied none p l) (idle.no_attempt c l)
+      ];
+      off_hold = λ t l m. off_hold g log t h sound applied none l m;
+    }

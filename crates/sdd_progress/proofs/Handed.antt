@@ -1,5 +1,5 @@
--- Where nothing goes on, all that was put on a link was handed over at its end.
-use Rattle.sdd_progress.proofs.All.{Input, IsQuiet, IsThere, List, Log, None, Option, Site, Some, [], all_at, all_links, and_left, and_right, ap, are_linked, arith, calls_of, cond, cons_option, dec_le, drop, filter_map, flat_map, flight, hand_on, handed, hands_from, in_left, in_order, in_right, is_empty, is_link, is_quiet_link, le_is, length, link, link_of, link_parts, links, local_of, member_there, none_not_some, one_on, puts_to, refl, sent, sent_is, site_there, sites, slice_get, sound, subst, suc, sym, take_all, takes_part, true, zero, ℕ, ◌-◌, ◌∙◌, ◌∷◌, ◌≡◌, ◌≤◌}
+-- Where nothing goes on, all that was put on a link was handed over at its end, if the site there takes part.
+use Rattle.sdd_progress.proofs.All.{Catalogue, D, Input, IsQuiet, IsStill, IsThere, List, Log, None, Option, Site, Some, [], all_at, all_links, and_left, and_right, ap, are_linked, arith, calls_of, cond, cons_option, dec_le, dm_no, drop, false, filter_map, flat_map, flight, hand_on, handed, hands_from, home, in_left, in_order, in_right, inl, inr, is_down, is_empty, is_link, is_quiet_link, le_is, length, link, link_of, link_parts, links, local_of, member_there, none_not_some, not, one_on, puts_to, refl, same_or_not, sent, sent_is, site_there, sites, slice_get, sound, subst, suc, sym, take_all, takes_part, true, zero, ℕ, ◌-◌, ◌∙◌, ◌∷◌, ◌≡◌, ◌≤◌}
 use Rattle.sdd_progress.proofs.Lists.{none_at}
 
 -- places
@@ -31,16 +31,29 @@ link_there tms dms a b e =
     let j = site_there tms dms b p.to in
     in_flat (links_from tms dms) (sites tms dms) i.0 a (a, b) i.1 (in_filter_map (link_if a) (sites tms dms) j.0 b (a, b) j.1 (rw p.linked refl))
 
+-- a module that is up takes part, and so does the site of a class always
+
+pub up_part : (d : ℕ) (log : Log) → is_down d log ≡ false → takes_part (D (dm_no d)) log ≡ true
+up_part d log e = ap not e
+
+pub home_part : (cat : Catalogue) (c : ℕ) (log : Log) → takes_part (home cat c) log ≡ true
+home_part cat c log = elim (same_or_not c 0) [
+  | inl p ↦ ap (λ k. takes_part (home cat k) log) p
+  | inr p ↦ rw p refl
+]
+
+pub quiet_part : (g : Input) (log : Log) (a b : Site) → IsQuiet g log → is_link g.catalogue.tms g.catalogue.dms a b ≡ true → takes_part b log ≡ true
+quiet_part g log a b h e = grind (arith, le_is, and_left, and_right)
+
 -- nothing is left on the way
-pub none_left : (g : Input) (log : Log) (a b : Site) → IsQuiet g log → is_link g.catalogue.tms g.catalogue.dms a b ≡ true
+pub none_left : (g : Input) (log : Log) (a b : Site) → IsStill g log → takes_part b log ≡ true → is_link g.catalogue.tms g.catalogue.dms a b ≡ true
     → length (puts_to b (local_of g a log)) ≤ handed a b log
-none_left g log a b h e =
+none_left g log a b h part e =
     let k = link_there g.catalogue.tms g.catalogue.dms a b e in
     let q : is_quiet_link (link a b (calls_of log)) ≡ true =
     all_at (λ (l : Site × Site). is_quiet_link (link l.0 l.1 (calls_of log))) (all_links g) k.0 (a, b) h.links k.1 in
     let acked : length (sent a b log) ≤ (link_of a b log).there.acked = le_is _ _ (and_right (is_empty (link_of a b log).there.flight) _ q) in
     let none : hand_on log (a, b) ≡ None = none_at (hand_on log) (all_links g) k.0 (a, b) h.no_hand k.1 in
-    let part : takes_part b log ≡ true = (grind (arith, le_is, and_left, and_right)) in
     elim (dec_le (length (sent a b log)) (handed a b log)) [
       | yes l ↦ omega (arith, l, ap length (sent_is g a b log))
       | no l ↦ (let m = member_there (handed a b log) (sent a b log) (omega (arith, l)) in
@@ -49,9 +62,9 @@ none_left g log a b h e =
           absurd (none_not_some (hand_on log (a, b)) _ none (one_on log a b m.0 part (omega (arith, l, acked, ((sound a b (calls_of log)).there.acked))) at)))
     ]
 
-pub all_handed : (g : Input) (log : Log) (a b : Site) → IsQuiet g log → is_link g.catalogue.tms g.catalogue.dms a b ≡ true
+pub all_handed : (g : Input) (log : Log) (a b : Site) → IsStill g log → takes_part b log ≡ true → is_link g.catalogue.tms g.catalogue.dms a b ≡ true
     → hands_from a (local_of g b log) ≡ puts_to b (local_of g a log)
-all_handed g log a b h e = in_order g log a b h.permitted ∙ take_all (handed a b log) (puts_to b (local_of g a log)) (none_left g log a b h e)
+all_handed g log a b h part e = in_order g log a b h.permitted ∙ take_all (handed a b log) (puts_to b (local_of g a log)) (none_left g log a b h part e)
 
 drop_past : {A : Type 0} (n : ℕ) (xs : List A) → length xs ≤ n → drop n xs ≡ []
 drop_past zero [] l = refl
@@ -59,5 +72,5 @@ drop_past (suc n) [] l = refl
 drop_past zero (x ∷ xs) l = absurd (omega (arith, l))
 drop_past (suc n) (x ∷ xs) l = drop_past n xs (omega (arith, l))
 
-pub none_in_flight : (g : Input) (log : Log) (a b : Site) → IsQuiet g log → is_link g.catalogue.tms g.catalogue.dms a b ≡ true → flight g a b log ≡ []
-none_in_flight g log a b h e = drop_past (handed a b log) (puts_to b (local_of g a log)) (none_left g log a b h e)
+pub none_in_flight : (g : Input) (log : Log) (a b : Site) → IsStill g log → takes_part b log ≡ true → is_link g.catalogue.tms g.catalogue.dms a b ≡ true → flight g a b log ≡ []
+none_in_flight g log a b h part e = drop_past (handed a b log) (puts_to b (local_of g a log)) (none_left g log a b h part e)

@@ -84,6 +84,7 @@ pub record IsLastCommit (s : Setting) (log : Log) : Type 0 where
   pub attempt : Attempt
   pub before : Log
   pub is : log ≡ later ++ Did (commit_act s.catalogue bases 0 attempt) ∷ before
+  pub active_is : active s 0 before ≡ Some attempt
   pub ts_is : (last_served s log).ts ≡ attempt.ts
 
 abbrev CommitIfAny : Setting → Log → Type 0
@@ -91,7 +92,7 @@ CommitIfAny s log = 0 < (last_served s log).commits → IsLastCommit s log
 
 any_later : (s : Setting) (e : Entry) (log : Log) → (last_served s (e ∷ log)).ts ≡ (last_served s log).ts
     → (last_served s (e ∷ log)).commits ≡ (last_served s log).commits → CommitIfAny s log → CommitIfAny s (e ∷ log)
-any_later s e log p q h = λ l. (record { later = e ∷ (h (subst (λ n. 0 < n) q l)).later; bases = (h (subst (λ n. 0 < n) q l)).bases; attempt = (h (subst (λ n. 0 < n) q l)).attempt; before = (h (subst (λ n. 0 < n) q l)).before; is = ap (λ l. e ∷ l) (h (subst (λ n. 0 < n) q l)).is; ts_is = p ∙ (h (subst (λ n. 0 < n) q l)).ts_is })
+any_later s e log p q h = λ l. (record { later = e ∷ (h (subst (λ n. 0 < n) q l)).later; bases = (h (subst (λ n. 0 < n) q l)).bases; attempt = (h (subst (λ n. 0 < n) q l)).attempt; before = (h (subst (λ n. 0 < n) q l)).before; is = ap (λ l. e ∷ l) (h (subst (λ n. 0 < n) q l)).is; active_is = (h (subst (λ n. 0 < n) q l)).active_is; ts_is = p ∙ (h (subst (λ n. 0 < n) q l)).ts_is })
 
 pub last_commit : (s : Setting) (log : Log) → Each (IsFairU s) log → CommitIfAny s log
 last_commit s [] h = λ l. absurd (omega (arith, l))
@@ -99,7 +100,7 @@ last_commit s (Handed from m ∷ log) h = grind (arith, any_later, hand_ts, hand
 last_commit s (Did act ∷ log) h =
     let i = last_commit s log h.1 in
     u_way s log act (λ x. CommitIfAny s (Did x ∷ log)) (λ q e z r. any_later s (Did (start_at s 0 log q)) log refl refl i)
-    (λ bases a e. λ l. record { later = []; bases = bases; attempt = a; before = log; is = refl; ts_is = ap ts_of e })
+    (λ bases a e. λ l. record { later = []; bases = bases; attempt = a; before = log; is = refl; active_is = e; ts_is = ap ts_of e })
     (λ d m a e. any_later s (Did (Sends (D (dm_no d)) m None)) log refl refl i)
     (λ t ts l w. any_later s (Did (Sends (T (tm_no t)) (Release ts) None)) log refl refl i)
     (λ t e. any_later s (Did (Sends (T (tm_no t)) Hold None)) log refl refl i) (u_due s h.0.0.0 log act h.0.0.1)

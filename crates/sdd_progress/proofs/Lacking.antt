@@ -1,9 +1,11 @@
--- Where nothing goes on, an active attempt has a READ that is not processed.
-use Rattle.sdd_progress.proofs.All.{AllAskParts, AllByRecursion, AllHaveParts, Asks, AtTurn, Attempt, Bool, Catalogue, Condition, D, Exchange, FitsCondition, FitsInput, FitsQuery, FitsStatement, FitsText, HasNear, HasTurn, Input, IsAtTurn, IsClass, IsGoing, IsModule, IsNear, IsNearBy, IsPermitted, IsQuiet, IsSoundCatalogue, IsUnanswered, List, Log, Msg, None, Open, Query, RelNo, Site, Some, Stmt, Turn, View, [], active, active_near, active_so, all_new, and_right, answered_last, apart, arith, asker, askings, asks_open, asks_rows, at_home, at_map, at_module, attempt_due, awaited, base_of, class_view, classes_of, contains, data_turns, dm_no, eqb-true, false, filter, first_send, first_some, firsts, from_site, home, home_fair, home_first, home_of, home_turns, in_filtered, inl, inr, is_asked_of, is_empty, is_over, is_question, is_read, length, map, not_both, open_due, opens, or_left, or_none, pipe, range_at, reads_asked, recursion_from_All, refl, rows_asked, same_number, setting_of, slice_get, small_home, sound_whole, spoken, submitted_fit, subst, sym, to_module, true, turn_at, turn_with, unsent, uses_in, view_of, ℕ, ◌+◌, ◌==◌, ◌∙◌, ◌∷◌, ◌≡◌, ◌≤◌}
+-- Where nothing goes on, an active attempt has a READ that is not processed, if the modules that it asks are up.
+use Rattle.sdd_progress.proofs.All.{AllAskParts, AllByRecursion, AllHaveParts, Asks, AtTurn, Attempt, Bool, Catalogue, Condition, D, Exchange, FitsCondition, FitsInput, FitsQuery, FitsStatement, FitsText, HasNear, HasTurn, Input, IsAtTurn, IsClass, IsGoing, IsModule, IsNear, IsNearBy, IsPermitted, IsSoundCatalogue, IsStill, IsUnanswered, List, Log, Msg, None, Open, Query, RelNo, Site, Some, Stmt, Turn, View, [], active, active_near, active_so, all_new, and_right, answered_last, ap, apart, arith, asker, askings, asks_open, asks_rows, at_home, at_map, at_module, attempt_due, awaited, base_of, class_view, classes_of, contains, data_turns, dm_no, eqb-true, false, filter, first_send, first_some, firsts, from_site, home, home_fair, home_first, home_of, home_turns, in_filtered, inl, inr, is_asked_of, is_down, is_empty, is_over, is_question, is_read, length, map, not_both, open_due, opens, or_left, or_none, pipe, range_at, reads_asked, recursion_from_All, refl, rows_asked, same_number, setting_of, slice_get, small_home, sound_whole, spoken, submitted_fit, subst, sym, to_module, true, turn_at, turn_with, unsent, uses_in, view_of, ℕ, ◌+◌, ◌==◌, ◌∙◌, ◌∷◌, ◌≡◌, ◌≤◌}
 use Rattle.sdd_progress.proofs.Going.{is_going}
-use Rattle.sdd_progress.proofs.Handed.{none_in_flight}
+use Rattle.sdd_progress.proofs.Handed.{home_part, none_in_flight, up_part}
 use Rattle.sdd_progress.proofs.Lists.{either, head_at, no_head, none_at}
 use Rattle.sdd_progress.proofs.Still.{d_still, exchange_none, home_linked}
+use Rattle.sdd_obligations.specs.Stages.{IsStage, agreed, answer_goes, question_goes}
+use Rattle.sdd_obligations.specs.Turns.{answers, questions}
 use Rattle.sdd_obligations.specs.site_module.SiteLog as site
 
 -- what fits a catalogue counts its parts from 1
@@ -56,9 +58,20 @@ near_one n d (m ∷ ms) x h e = elim (either (m.0 == d) (contains (firsts ms) d)
 
 -- at rest both sides have the same turn
 
-pub same_turn : (g : Input) (log : Log) (c d ts : ℕ) → IsQuiet g log → IsSoundCatalogue g.catalogue → IsClass g.catalogue c → IsModule g.catalogue d
-    → turn_at ts c d (at_home g c log) ≡ turn_with ts c (home g.catalogue c) (at_module g d log)
-same_turn g log c d ts h sound l m = grind (arith, home_linked, spoken, small_home, none_in_flight)
+one_turn : (v w : Turn) (qs xs : List Msg) → IsStage v w qs xs → qs ≡ [] → xs ≡ [] → v ≡ w
+one_turn v w qs xs (agreed e p q) a b = e
+one_turn v w qs xs (question_goes m p q e f) a b = cc
+one_turn v w qs xs (answer_goes x p q e f) a b = cc
+
+pub same_turn : (g : Input) (log : Log) (c d ts : ℕ) → IsStill g log → IsSoundCatalogue g.catalogue → IsClass g.catalogue c → IsModule g.catalogue d
+    → is_down d log ≡ false → turn_at ts c d (at_home g c log) ≡ turn_with ts c (home g.catalogue c) (at_module g d log)
+same_turn g log c d ts h sound l m up =
+    let at = home g.catalogue c in
+    let linked = home_linked g.catalogue c d sound l m in
+    let there = none_in_flight g log at (D (dm_no d)) h (up_part d log up) linked.0 in
+    let back = none_in_flight g log (D (dm_no d)) at h (home_part g.catalogue c log) linked.1 in
+    one_turn (turn_at ts c d (at_home g c log)) (turn_with ts c at (at_module g d log)) _ _
+    ((spoken g c log h.permitted (small_home g.catalogue sound c l)).stages ts d) (ap (questions ts c) there) (ap (answers ts c) back)
 
 -- no question of rows stands open
 
@@ -67,7 +80,7 @@ class_there s log c l =
     let z : 0 + c ≡ c = omega arith in
     at_map (class_view s log) (classes_of s) c c (grind (arith, slice_get, classes_of, range_at))
 
-pub none_open : (g : Input) (log : Log) (c d : ℕ) → IsQuiet g log → IsClass g.catalogue c
+pub none_open : (g : Input) (log : Log) (c d : ℕ) → IsStill g log → IsClass g.catalogue c
     → IsModule g.catalogue d → filter (is_asked_of c) (opens (at_module g d log)) ≡ []
 none_open g log c d h l m =
     let s = setting_of g (D (dm_no d)) in
@@ -106,9 +119,21 @@ goes_on g log c a h good l e =
     askings_parts g.catalogue 0 a.text.statements (recursion_from_All (FitsStatement g.catalogue) a.text.statements text.fits.statements) in
     is_going s c (at_home g c log) a (home_fair g c log h) (home_first g c log h) sp.timely_at e parts
 
-pub has_unanswered : (g : Input) (log : Log) (c : ℕ) (a : Attempt) → IsQuiet g log → FitsInput g → IsClass g.catalogue c
-    → active (setting_of g (home g.catalogue c)) c (at_home g c log) ≡ Some a → IsUnanswered g log c a.ts
-has_unanswered g log c a h good l e =
+-- the modules that an active attempt of the class asks are up
+abbrev pub AsksUp : Input → Log → ℕ → Type 0
+AsksUp g log c =
+    (a : Attempt) → active (setting_of g (home g.catalogue c)) c (at_home g c log) ≡ Some a
+    → (d : ℕ) → IsModule g.catalogue d → contains (firsts a.exchange.modules) d ≡ true → is_down d log ≡ false
+
+-- the READ of the attempt is not processed at a module that it asks and that is up
+pub record IsUnansweredUp (g : Input) (log : Log) (c : ℕ) (a : Attempt) : Type 0 where
+  pub unanswered : IsUnanswered g log c a.ts
+  pub asked : contains (firsts a.exchange.modules) unanswered.d ≡ true
+  pub up : is_down unanswered.d log ≡ false
+
+pub has_unanswered : (g : Input) (log : Log) (c : ℕ) (a : Attempt) → IsStill g log → FitsInput g → IsClass g.catalogue c → AsksUp g log c
+    → active (setting_of g (home g.catalogue c)) c (at_home g c log) ≡ Some a → IsUnansweredUp g log c a
+has_unanswered g log c a h good l ups e =
     let s = setting_of g (home g.catalogue c) in
     let at = home g.catalogue c in
     let sp = spoken g c log h.permitted (small_home g.catalogue good.sound c l) in
@@ -122,7 +147,8 @@ has_unanswered g log c a h good l e =
     let near : IsNearBy g.catalogue.dms a.exchange =
     subst (HasNear g.catalogue.dms) e (active_near s c (at_home g c log) (sound_whole g.catalogue good.sound) (home_fair g c log h.permitted)) in
     let m : IsModule g.catalogue d = near_one g.catalogue.dms d a.exchange.modules a.exchange near q.within in
-    let there : turn_with a.ts c at (at_module g d log) ≡ Asks q.uses q.question = sym (same_turn g log c d a.ts h good.sound l m) ∙ q.is in
+    let up : is_down d log ≡ false = ups a e d m q.within in
+    let there : turn_with a.ts c at (at_module g d log) ≡ Asks q.uses q.question = sym (same_turn g log c d a.ts h good.sound l m up) ∙ q.is in
     let has : HasTurn a.ts c at (opens (at_module g d log)) (pipe c (at_module g d log))
     (Asks q.uses q.question) = subst (HasTurn a.ts c at (opens (at_module g d log))
     (pipe c (at_module g d log))) there (data_turns g a.ts c d log h.permitted sp) in
@@ -131,4 +157,8 @@ has_unanswered g log c a h good l e =
     let read = read_it_is a.ts c q.question has.own.0 (not_rows a.ts c at (opens (at_module g d log)) q.uses q.question none has.rows_are) in
     let i = in_filtered (is_read a.ts c) (pipe c (at_module g d log)).unprocessed 0 q.question
     (read_there a.ts c q.uses q.question (pipe c (at_module g d log)).unprocessed read has.reads_are) in
-    record { d = d; module_is = m; place = i.1; message = q.question; there = i.2; is_its = read }
+    record {
+      unanswered = record { d = d; module_is = m; place = i.1; message = q.question; there = i.2; is_its = read };
+      asked = q.within;
+      up = up;
+    }

@@ -49,6 +49,7 @@ pub mod Listed
 pub mod Lists
 pub mod Marked
 pub mod Moves
+pub mod NeededModules
 pub mod NeverBoth
 pub mod NoRejects
 pub mod NoneWaits
@@ -57,6 +58,7 @@ pub mod OfLogs
 pub mod OneEra
 pub mod OneList
 pub mod OtherClass
+pub mod Outage
 pub mod OwnCopies
 pub mod Passing
 pub mod Paths

@@ -1,13 +1,19 @@
--- Where nothing goes on, no READ waits, so every message is processed and no attempt is under way; if all was idle wherever
--- a further class list was put in force. Then each READ that waits has conditions of the list in force.
-use Rattle.sdd_progress.proofs.All.{AreConditionsOf, Bool, Catalogue, Change, ClassNo, Cond, D, Entry, FragNo, HasDiagonal, Input, IsBelow, IsClass, IsDiagonalIn, IsFromTable, IsHolder, IsIdle, IsIdleAtRedeclares, IsModule, IsPermitted, IsQuiet, IsReader, IsSoundCatalogue, IsSoundList, IsStamped, IsStuck, IsTimestamp, List, Log, Msg, None, P2, P3, Protocol, Read, Setting, Some, Ts, TxnNo, Use, WaitGraph, WaitingRead, WaitsOn, Write, [], active, ap, arith, at_home, at_module, bound, class_number, clock, conditions_at_put, diagonals_listed, differ, dm_no, false, head, head_put, head_stuck, holder, home, home_fair, home_small, if◌then◌else◌, in_range, inl, inr, is_met, length, list_all, local_of, none_waits, not_zero, nth_era, number_of, part_of, permitted_part, pipe, read_classes, reader, redeclares, refl, same_or_not, setting_of, slice_get, stamp_ticks, start_of_active, subst, suc, sym, table_fits, time_at, time_of, true, view_of, wait_graph, wait_protocol, wait_time, write_origin, ℕ, ◌+◌, ◌==◌, ◌∙◌, ◌≡◌}
+-- Where nothing goes on, no READ waits at a module that is up, where those are that are needed by the classes for which it
+-- waits; so what stands there in the pipe of a class is processed where those are up that its passing needs, and no attempt
+-- of it is under way where those are that an attempt needs. If no module is down, every message is processed, and no attempt
+-- is under way. All this if all was idle wherever a further class list was put in force: then each READ that waits has
+-- conditions of the list in force.
+use Rattle.sdd_progress.proofs.All.{AreConditionsOf, Bool, Catalogue, Change, ClassNo, Cond, D, Entry, FragNo, HasDiagonal, Input, IsBelow, IsClass, IsDiagonalIn, IsEarlierReader, IsFromTable, IsHolder, IsIdle, IsIdleAtRedeclares, IsModule, IsPermitted, IsQuiet, IsReader, IsSoundCatalogue, IsSoundList, IsStamped, IsStill, IsStuck, IsTimestamp, List, Log, Msg, NeedsAreUp, None, P2, P3, Protocol, Read, Setting, Some, Ts, TxnNo, Use, WaitGraph, WaitingRead, WaitsOn, Write, [], active, ap, arith, at_home, at_module, attempt_task, bound, class_number, clock, conditions_at_put, diagonals_listed, differ, dm_no, false, head, head_put, head_stuck, holder, home, home_fair, home_small, if◌then◌else◌, in_range, inl, inr, is_down, is_met, length, list_all, local_of, none_waits, not_zero, nth_era, number_of, part_of, passing_task, permitted_part, pipe, read_classes, reader, redeclares, refl, same_or_not, setting_of, slice_get, stamp_ticks, start_of_active, subst, suc, sym, table_fits, table_in_force, time_at, time_of, true, view_of, wait_graph, wait_protocol, wait_time, waits_by, write_origin, ℕ, ◌+◌, ◌==◌, ◌∙◌, ◌≡◌}
 use Rattle.sdd_progress.proofs.Alone.{below_read, zero_time}
 use Rattle.sdd_progress.proofs.Lacking.{has_unanswered}
 use Rattle.sdd_progress.proofs.Lists.{not_all, no_head}
-use Rattle.sdd_progress.proofs.Still.{d_still}
+use Rattle.sdd_progress.proofs.NeededModules.{CanMove, PassingsUp, ReadsThere, asks_up, attempt_moves, attempt_reads, condition_waits, of_attempt, of_held, of_passing, passing_moves, reader_reads}
+use Rattle.sdd_progress.proofs.Still.{d_still, still_of}
 use Rattle.sdd_progress.proofs.WaitedFor.{next_head, next_reader}
 use Rattle.sdd_progress.proofs.SinceRedeclare.{since_redeclare}
 use Rattle.sdd_progress.specs.WaitGraph.{FitsWaitGraph}
+use Rattle.sdd_obligations.specs.All.{IsClassOf}
+use Rattle.sdd_outage.specs.Tasks.{Task}
 use Rattle.sdd_obligations.specs.protocol.declared.entry.Entry as line
 use Rattle.sdd_obligations.specs.site_module.SiteLog as site
 
@@ -24,7 +30,7 @@ stuck_read : (s : Setting) (c : ℕ) (l : site.Log) (ts : Ts) (of : ClassNo) (tx
     → list_all (is_met (view_of s l)) conds ≡ false
 stuck_read s c l ts of txn attempt conds uses h = h.1
 
-unmet : (g : Input) (log : Log) (c ts : ℕ) (conds : List Cond) (r : IsReader g log c ts conds) → IsQuiet g log → IsUnmet g log r.d conds
+unmet : (g : Input) (log : Log) (c ts : ℕ) (conds : List Cond) (r : IsReader g log c ts conds) → IsStill g log → IsUnmet g log r.d conds
 unmet g log c ts conds r h =
     let s = setting_of g (D (dm_no r.d)) in
     let class = r.class_is in
@@ -51,13 +57,25 @@ record IsWaiting (g : Input) (log : Log) (r : WaitingRead) : Type 0 where
   ticks_are : r.ticks ≡ suc (clock (home g.catalogue r.class) (local_of g (home g.catalogue r.class) from.before)).ticks
   p2_is : r.p2 ≡ bound (setting_of g (home g.catalogue r.class)) (local_of g (home g.catalogue r.class) from.before)
   since : redeclares from.before ≡ redeclares log
+  up : is_down reader.d log ≡ false
+  passings : PassingsUp g log r.class
 
 waiting_number : (g : Input) (log : Log) (c ts : ℕ) (conds : List Cond) → (c == 0) ≡ false
-    → IsReader g log c ts conds → (from : AreConditionsOf g log c ts conds) → redeclares from.before ≡ redeclares log
-    → IsWaiting g log (read_number g log c ts conds from)
-waiting_number g log c ts conds z r from since = record { conds = conds; declared = z; reader = r; from = from; ticks_are = refl; p2_is = refl; since = since }
+    → (r : IsReader g log c ts conds) → (from : AreConditionsOf g log c ts conds) → redeclares from.before ≡ redeclares log
+    → is_down r.d log ≡ false → PassingsUp g log c → IsWaiting g log (read_number g log c ts conds from)
+waiting_number g log c ts conds z r from since up passings = record {
+  conds = conds;
+  declared = z;
+  reader = r;
+  from = from;
+  ticks_are = refl;
+  p2_is = refl;
+  since = since;
+  up = up;
+  passings = passings;
+}
 
-conditions : (g : Input) (log : Log) (c ts : ℕ) (conds : List Cond) → IsQuiet g log → IsSoundCatalogue g.catalogue → IsIdleAtRedeclares g log → (c == 0) ≡ false
+conditions : (g : Input) (log : Log) (c ts : ℕ) (conds : List Cond) → IsStill g log → IsSoundCatalogue g.catalogue → IsIdleAtRedeclares g log → (c == 0) ≡ false
     → IsReader g log c ts conds → (from : AreConditionsOf g log c ts conds) × (redeclares from.before ≡ redeclares log)
 conditions g log c ts conds h sound marks z r =
     let p = head_put g c (dm_no r.d) log (Read (time_at ts) r.of r.txn r.attempt conds r.uses) h.permitted r.head_is in
@@ -81,6 +99,10 @@ record IsAlong (G : WaitGraph) (i j time own p2 : ℕ) : Type 0 where
   by_own : Bool
   diagonal : HasDiagonal G i j by_own
   time_is : time ≡ (if by_own then own else p2)
+
+time_along : (own : Bool) (r : WaitingRead) → (if own then r.ts else r.p2) ≡ wait_time own r
+time_along true r = refl
+time_along false r = refl
 
 diagonal_in : (cat : Catalogue) (table : List line.Entry) (p : Protocol) (own : Bool) (i j : ℕ) (f : FragNo)
     → p ≡ wait_protocol own → IsDiagonalIn table p i j f → HasDiagonal (wait_graph cat table) i j own
@@ -107,6 +129,11 @@ cond_along : (g : Input) (log : Log) (c ts : ℕ) (conds : List Cond)
     → IsAlong (graph_of g log) c q.class.0 q.time.0 ts (bound (setting_of g (home g.catalogue c)) (local_of g (home g.catalogue c) from.before))
 cond_along g log c ts conds from k q since e = grind (arith, along)
 
+cond_waits : (g : Input) (log : Log) (c ts : ℕ) (conds : List Cond) (from : AreConditionsOf g log c ts conds) (k : ℕ) (q : Cond)
+    → redeclares from.before ≡ redeclares log → slice_get conds k ≡ Some q → waits_by (table_in_force g log) c q.class.0 ≡ true
+cond_waits g log c ts conds from k q since e =
+    subst (λ n. waits_by (nth_era g n).table c q.class.0 ≡ true) since (condition_waits (nth_era g (redeclares from.before)).table c ts _ q (from.from_table k q e))
+
 -- a WRITE's time is that of a Start
 
 write_stamp : (g : Input) (log : Log) (j d w : ℕ) (of : ClassNo) (txn : TxnNo) (changes : List Change) → IsSoundCatalogue g.catalogue → IsPermitted g log
@@ -125,7 +152,7 @@ write_stamp g log j d w of txn changes sound h e =
       small = omega (arith, small);
     }
 
-module _ (g : Input) (log : Log) (h : IsQuiet g log) (one : IsSoundList g (redeclares log)) (marks : IsIdleAtRedeclares g log) where
+module _ (g : Input) (log : Log) (h : IsStill g log) (one : IsSoundList g (redeclares log)) (marks : IsIdleAtRedeclares g log) where
   -- a READ of class 0 holds nothing back
   holder_declared : (j t : ℕ) → (j == 0) ≡ false → IsClass g.catalogue j → (k : IsHolder g log j t) → (k.class == 0) ≡ false
   holder_declared j t z l k = grind (arith, same_or_not, below_read, zero_time)
@@ -133,11 +160,17 @@ module _ (g : Input) (log : Log) (h : IsQuiet g log) (one : IsSoundList g (redec
   fits : FitsWaitGraph (graph_of g log)
   fits = table_fits (nth_era g (redeclares log)).catalogue (nth_era g (redeclares log)).table one.table.table
 
-  class_of_writer : (i j : ℕ) (own : Bool) → HasDiagonal (graph_of g log) i j own → ((j == 0) ≡ false) × IsClass g.catalogue j
+  class_of_writer : (i j : ℕ) (own : Bool) → HasDiagonal (graph_of g log) i j own → ((j == 0) ≡ false) × IsClassOf g.catalogue j
   class_of_writer i j own d =
       let w = (fits.diagonal d.place d.diagonal d.at).writer in
       let same = d.writer_is in
-      (not_zero j (omega (arith, w.from, same)), omega (arith, w.to, same, one.era.classes))
+      (not_zero j (omega (arith, w.from, same)), record { from = omega (arith, w.from, same); to = omega (arith, w.to, same, one.era.classes) })
+
+  -- the READ that holds a WRITE back waits for the WRITE's class, and so do the READs of its own class
+  held_waits : (j t : ℕ) (k : IsHolder g log j t) → (k.class == 0) ≡ false → waits_by (table_in_force g log) k.class j ≡ true
+  held_waits j t k z =
+      let from = conditions g log k.class k.ts k.conds h one.fits.sound marks z k.reader in
+      subst (λ n. waits_by (table_in_force g log) k.class n ≡ true) k.names (cond_waits g log k.class k.ts k.conds from.0 k.place k.cond from.1 k.there)
 
   waits_on : (r : WaitingRead) → IsWaiting g log r → WaitsOn (graph_of g log) (IsWaiting g log) r
   waits_on r w =
@@ -148,47 +181,106 @@ module _ (g : Input) (log : Log) (h : IsQuiet g log) (one : IsSoundList g (redec
       subst (λ p. IsAlong (graph_of g log) r.class x.class.0 x.time.0 r.ts p) (sym w.p2_is) a0 in
       let d = a.diagonal in
       let c = class_of_writer r.class x.class.0 a.by_own d in
-      let time = (a.time_is ∙ (grind arith) ∙ ap (λ b. wait_time b r) (sym a.diagonal.own_is)) in
-      let below = next_head g log r.class r.ts w.conds w.reader u.place x h one.fits u.there c.0 c.1 u.unmet in
-      elim (next_reader g log x.class.0 x.time.0 h c.1 below) [
-        | inl e ↦ (let from = conditions g log x.class.0 e.ts e.conds h one.fits.sound marks c.0 e.reader in
+      let time = (a.time_is ∙ time_along a.by_own r ∙ ap (λ b. wait_time b r) (sym a.diagonal.own_is)) in
+      let passes = w.passings x.class.0 (cond_waits g log r.class r.ts w.conds w.from u.place x w.since u.there) in
+      let asks = asks_up g log x.class.0 h.permitted c.0 c.1 (of_passing g log x.class.0 passes) in
+      let below = next_head g log r.class r.ts w.conds w.reader u.place x h one.fits w.up asks u.there c.0 c.1.to u.unmet in
+      elim (next_reader g log x.class.0 x.time.0 h c.1.to below.here) [
+        | inl i ↦ (let e : IsEarlierReader g log x.class.0 x.time.0 = i.0 in
+            let from = conditions g log x.class.0 e.ts e.conds h one.fits.sound marks c.0 e.reader in
+            let up = subst (λ n. is_down n log ≡ false) (sym i.1) below.up in
             reader d.place d.diagonal d.at d.reader_is (read_number g log x.class.0 e.ts e.conds from.0)
-            (waiting_number g log x.class.0 e.ts e.conds c.0 e.reader from.0 from.1) (sym d.writer_is) (omega (arith, e.below, time)))
-        | inr k ↦ (let z = holder_declared x.class.0 x.time.0 c.0 c.1 k in
+            (waiting_number g log x.class.0 e.ts e.conds c.0 e.reader from.0 from.1 up (of_attempt g log x.class.0 (of_passing g log x.class.0 passes)))
+            (sym d.writer_is) (omega (arith, e.below, time)))
+        | inr i ↦ (let k : IsHolder g log x.class.0 x.time.0 = i.0 in
+            let z = holder_declared x.class.0 x.time.0 c.0 c.1.to k in
+            let up = subst (λ n. is_down n log ≡ false) (sym i.1) below.up in
+            let others = of_held g log x.class.0 k.class passes (held_waits x.class.0 x.time.0 k z) in
             let from = conditions g log k.class k.ts k.conds h one.fits.sound marks z k.reader in
             let q : WaitingRead = read_number g log k.class k.ts k.conds from.0 in
             let b : IsAlong (graph_of g log) q.class k.cond.class.0 k.cond.time.0 q.ts q.p2 =
             cond_along g log k.class k.ts k.conds from.0 k.place k.cond from.1 k.there in
-            let held_time = (b.time_is ∙ (grind arith) ∙ ap (λ b. wait_time b q) (sym b.diagonal.own_is)) in
+            let held_time = (b.time_is ∙ time_along b.by_own q ∙ ap (λ b. wait_time b q) (sym b.diagonal.own_is)) in
             let o = b.diagonal in
-            holder d.place d.diagonal d.at d.reader_is q (waiting_number g log k.class k.ts k.conds z k.reader from.0 from.1) o.place o.diagonal o.at
+            holder d.place d.diagonal d.at d.reader_is q (waiting_number g log k.class k.ts k.conds z k.reader from.0 from.1 up others) o.place o.diagonal o.at
             o.reader_is (o.writer_is ∙ k.names ∙ sym d.writer_is)
-            k.write (grind (arith, write_stamp)) (omega (arith, k.held, held_time)) (omega (arith, k.below, time)))
+            k.write (write_stamp g log x.class.0 k.reader.d k.write k.of k.txn k.changes one.fits.sound h.permitted k.write_is) (omega (arith, k.held, held_time)) (omega (arith, k.below, time)))
       ]
 
-  none_declared : (c ts : ℕ) (conds : List Cond) → (c == 0) ≡ false → ¬ IsReader g log c ts conds
-  none_declared c ts conds z r =
+  pub none_declared : (c ts : ℕ) (conds : List Cond) → (c == 0) ≡ false → (r : IsReader g log c ts conds) → is_down r.d log ≡ false → PassingsUp g log c → ⊥
+  none_declared c ts conds z r up passings =
       let from = conditions g log c ts conds h one.fits.sound marks z r in
       none_waits (graph_of g log) fits (IsWaiting g log) (stamped g log one) waits_on (read_number g log c ts conds from.0)
-      (waiting_number g log c ts conds z r from.0 from.1)
+      (waiting_number g log c ts conds z r from.0 from.1 up passings)
+
+  -- so the pipe of a class that can move has no message that isn't processed
+
+  none_next : (c d : ℕ) (m : Msg) → (c == 0) ≡ false → IsClass g.catalogue c → IsModule g.catalogue d → is_down d log ≡ false → CanMove g log c d
+      → head (pipe c (at_module g d log)) ≡ Some m → ⊥
+  none_next c d m z l w up moves e =
+      let below : IsBelow g log c (suc (time_of m)) = record { d = d; module_is = w; message = m; head_is = e; below = omega arith } in
+      elim (next_reader g log c (suc (time_of m)) h l below) [
+        | inl x ↦ none_declared c x.0.ts x.0.conds z x.0.reader (subst (λ n. is_down n log ≡ false) (sym x.1) up) moves.own
+        | inr x ↦ (let k : IsHolder g log c (suc (time_of m)) = x.0 in
+            let declared = holder_declared c (suc (time_of m)) z l k in
+            let there = subst (ReadsThere g.catalogue k.class) x.1 (reader_reads g log k.class k.ts k.conds k.reader h.permitted declared) in
+            none_declared k.class k.ts k.conds declared k.reader (subst (λ n. is_down n log ≡ false) (sym x.1) up)
+            (moves.others k.class there (held_waits c (suc (time_of m)) k declared)))
+      ]
+
+  pub none_unprocessed : (c d : ℕ) → (c == 0) ≡ false → IsClass g.catalogue c → IsModule g.catalogue d → is_down d log ≡ false → CanMove g log c d
+      → (pipe c (at_module g d log)).unprocessed ≡ []
+  none_unprocessed c d z l w up moves =
+      elim (head (pipe c (at_module g d log))) as (λ o. head (pipe c (at_module g d log)) ≡ o → (pipe c (at_module g d log)).unprocessed ≡ []) [
+        | None ↦ λ e. no_head (pipe c (at_module g d log)).unprocessed e
+        | Some m ↦ λ e. absurd (none_next c d m z l w up moves e)
+      ] refl
+
+  -- and it has no attempt under way
+  pub none_under_way : (c : ℕ) → (c == 0) ≡ false → IsClassOf g.catalogue c → NeedsAreUp g log (attempt_task c)
+      → active (setting_of g (home g.catalogue c)) c (at_home g c log) ≡ None
+  none_under_way c z class up =
+      elim (active (setting_of g (home g.catalogue c)) c (at_home g c log)) as (λ o. active
+      (setting_of g (home g.catalogue c)) c (at_home g c log) ≡ o → o ≡ None) [
+        | None ↦ λ e. refl
+        | Some a ↦ λ e. (let n = has_unanswered g log c a h one.fits class.to (asks_up g log c h.permitted z class up) e in
+            let u = n.unanswered in
+            let here = attempt_reads g log c u.d a h.permitted z e n.asked in
+            let empty : slice_get [] u.place ≡ Some u.message =
+            subst (λ ms. slice_get ms u.place ≡ Some u.message)
+            (none_unprocessed c u.d z class.to u.module_is n.up (attempt_moves g log c u.d up here)) u.there in cc)
+      ] refl
+
+-- where no module is down, all that is needed is up
+
+module _ (g : Input) (log : Log) (h : IsQuiet g log) (one : IsSoundList g (redeclares log)) (marks : IsIdleAtRedeclares g log) where
+  still : IsStill g log
+  still = still_of g log h
+
+  needs : (task : Task) → NeedsAreUp g log task
+  needs task d m n = h.up d m
+
+  pub none_waits_declared : (c ts : ℕ) (conds : List Cond) → (c == 0) ≡ false → ¬ IsReader g log c ts conds
+  none_waits_declared c ts conds z r = none_declared g log still one marks c ts conds z r (h.up r.d r.module_is) (λ j w. needs (passing_task j))
 
   none_undeclared : (ts : ℕ) (conds : List Cond) → ¬ IsReader g log 0 ts conds
   none_undeclared ts conds r =
-      let u = unmet g log 0 ts conds r h in
+      let u = unmet g log 0 ts conds r still in
       let x : Cond = u.cond in
       let class = read_classes g (dm_no r.d) log (time_at ts) r.of r.txn r.attempt conds r.uses u.place x h.permitted r.head_is u.there in
       let i = in_range 1 (length g.catalogue.classes) u.place x.class.0 class in
       let z = not_zero x.class.0 i.0 in
       let l : IsClass g.catalogue x.class.0 = omega (arith, i.1) in
-      elim (next_reader g log x.class.0 x.time.0 h l (next_head g log 0 ts conds r u.place x h one.fits u.there z l u.unmet)) [
-        | inl e ↦ none_declared x.class.0 e.ts e.conds z e.reader
-        | inr k ↦ none_declared k.class k.ts k.conds (holder_declared x.class.0 x.time.0 z l k) k.reader
+      let below = next_head g log 0 ts conds r u.place x still one.fits (h.up r.d r.module_is) (λ a e d m q. h.up d m) u.there z l u.unmet in
+      elim (next_reader g log x.class.0 x.time.0 still l below.here) [
+        | inl e ↦ none_waits_declared x.class.0 e.0.ts e.0.conds z e.0.reader
+        | inr k ↦ none_waits_declared k.0.class k.0.ts k.0.conds (holder_declared g log still one marks x.class.0 x.time.0 z l k.0) k.0.reader
       ]
 
   pub none_waits_now : (c ts : ℕ) (conds : List Cond) → ¬ IsReader g log c ts conds
   none_waits_now c ts conds r = elim (same_or_not c 0) [
     | inl p ↦ none_undeclared ts conds (subst (λ k. IsReader g log k ts conds) p r)
-    | inr p ↦ none_declared c ts conds p r
+    | inr p ↦ none_waits_declared c ts conds p r
   ]
 
   -- so no pipe has a message that isn't processed
@@ -210,24 +302,23 @@ module _ (g : Input) (log : Log) (h : IsQuiet g log) (one : IsSoundList g (redec
   zero_head d (Write w of txn changes) m e stuck = cc
   zero_head d x m e stuck = stuck
 
-  none_next : (c d : ℕ) (m : Msg) → IsClass g.catalogue c → IsModule g.catalogue d → head (pipe c (at_module g d log)) ≡ Some m → ⊥
-  none_next c d m l w e = elim (same_or_not c 0) [
-    | inl p ↦ (let here : head (pipe 0 (at_module g d log)) ≡ Some m = subst (λ k. head (pipe k (at_module g d log)) ≡ Some m) p e in
-        let stuck = head_stuck (setting_of g (D (dm_no d))) (at_module g d log) 0 (omega arith) (d_still g log d h w) in
-        zero_head d m w here (subst (IsStuck (setting_of g (D (dm_no d))) (at_module g d log) 0) here stuck))
-    | inr p ↦ (let below : IsBelow g log c (suc (time_of m)) = record { d = d; module_is = w; message = m; head_is = e; below = omega arith } in
-        elim (next_reader g log c (suc (time_of m)) h l below) [
-          | inl x ↦ none_waits_now c x.ts x.conds x.reader
-          | inr k ↦ none_waits_now k.class k.ts k.conds k.reader
-        ])
-  ]
+  none_undeclared_next : (d : ℕ) (m : Msg) → IsModule g.catalogue d → head (pipe 0 (at_module g d log)) ≡ Some m → ⊥
+  none_undeclared_next d m w e =
+      let stuck = head_stuck (setting_of g (D (dm_no d))) (at_module g d log) 0 (omega arith) (d_still g log d still w) in
+      zero_head d m w e (subst (IsStuck (setting_of g (D (dm_no d))) (at_module g d log) 0) e stuck)
+
+  undeclared_processed : (d : ℕ) → IsModule g.catalogue d → (pipe 0 (at_module g d log)).unprocessed ≡ []
+  undeclared_processed d w =
+      elim (head (pipe 0 (at_module g d log))) as (λ o. head (pipe 0 (at_module g d log)) ≡ o → (pipe 0 (at_module g d log)).unprocessed ≡ []) [
+        | None ↦ λ e. no_head (pipe 0 (at_module g d log)).unprocessed e
+        | Some m ↦ λ e. absurd (none_undeclared_next d m w e)
+      ] refl
 
   all_processed : (c d : ℕ) → IsClass g.catalogue c → IsModule g.catalogue d → (pipe c (at_module g d log)).unprocessed ≡ []
-  all_processed c d l w =
-      elim (head (pipe c (at_module g d log))) as (λ o. head (pipe c (at_module g d log)) ≡ o → (pipe c (at_module g d log)).unprocessed ≡ []) [
-        | None ↦ λ e. no_head (pipe c (at_module g d log)).unprocessed e
-        | Some m ↦ λ e. absurd (none_next c d m l w e)
-      ] refl
+  all_processed c d l w = elim (same_or_not c 0) [
+    | inl p ↦ subst (λ k. (pipe k (at_module g d log)).unprocessed ≡ []) (sym p) (undeclared_processed d w)
+    | inr p ↦ none_unprocessed g log still one marks c d p l w (h.up d w) (passing_moves g log c d (needs (passing_task c)))
+  ]
 
   -- and no attempt is under way
   none_active : (c : ℕ) → IsClass g.catalogue c → active (setting_of g (home g.catalogue c)) c (at_home g c log) ≡ None
@@ -235,7 +326,7 @@ module _ (g : Input) (log : Log) (h : IsQuiet g log) (one : IsSoundList g (redec
       elim (active (setting_of g (home g.catalogue c)) c (at_home g c log)) as (λ o. active
       (setting_of g (home g.catalogue c)) c (at_home g c log) ≡ o → o ≡ None) [
         | None ↦ λ e. refl
-        | Some a ↦ λ e. (let u = has_unanswered g log c a h one.fits l e in
+        | Some a ↦ λ e. (let u = (has_unanswered g log c a still one.fits l (λ b f d m q. h.up d m) e).unanswered in
             let empty : slice_get [] u.place ≡ Some u.message =
             subst (λ ms. slice_get ms u.place ≡ Some u.message) (all_processed c u.d l u.module_is)
             u.there in cc)

@@ -1,5 +1,5 @@
 -- Where nothing goes on, nothing is due at any site.
-use Rattle.sdd_progress.proofs.All.{Catalogue, D, Input, IsClass, IsModule, IsQuiet, IsSoundCatalogue, Log, None, Site, Some, T, U, active, ap, arith, at_home, at_map, at_module, at_place, attempt_due, base_of, class_at, dm_no, does_none, false, first_some, home, inl, inr, is_link, is_site, le-leb, length, local_of, next_at, numbers_to, or_none, positive, refl, same_number, same_or_not, served, setting_of, site_there, slice_get, subst, sym, tm_no, true, ℕ, ◌-◌, ◌==◌, ◌≡◌, ◌≤◌}
+use Rattle.sdd_progress.proofs.All.{Catalogue, D, Input, IsClass, IsModule, IsQuiet, IsSoundCatalogue, IsStill, Log, None, Site, Some, T, U, active, ap, arith, at_home, at_map, at_module, at_place, attempt_due, base_of, class_at, dm_no, does_none, false, first_some, home, inl, inr, is_link, is_site, le-leb, length, local_of, next_at, numbers_to, or_none, positive, refl, same_number, same_or_not, served, setting_of, site_there, slice_get, subst, sym, tm_no, true, ℕ, ◌-◌, ◌==◌, ◌≡◌, ◌≤◌}
 use Rattle.sdd_progress.proofs.Lists.{kept_there, none_at}
 use Rattle.sdd_obligations.specs.dm.Due as dm
 use Rattle.sdd_obligations.specs.dm.Views as dm_views
@@ -8,7 +8,11 @@ use Rattle.sdd_obligations.specs.tm.Views as tm_views
 use Rattle.sdd_obligations.specs.umod.Due as um
 use Rattle.sdd_obligations.specs.umod.Views as um_views
 
-pub none_due : (g : Input) (log : Log) (at : Site) → IsQuiet g log → is_site g.catalogue.tms g.catalogue.dms at ≡ true → next_at g log at ≡ None
+-- data modules may be down, and where none is it is quiet
+pub still_of : (g : Input) (log : Log) → IsQuiet g log → IsStill g log
+still_of g log h = record { permitted = h.permitted; links = h.links; no_act = h.no_act; no_hand = h.no_hand }
+
+pub none_due : (g : Input) (log : Log) (at : Site) → IsStill g log → is_site g.catalogue.tms g.catalogue.dms at ≡ true → next_at g log at ≡ None
 none_due g log at h e = grind (arith, site_there, does_none, none_at)
 
 -- the sites of modules and classes, and the links between them
@@ -62,7 +66,7 @@ pub record IsStillT (g : Input) (log : Log) (t : ℕ) : Type 0 where
       → tm.start_due g.catalogue (tm_views.view_of (setting_of g (T (tm_no t)))
       (local_of g (T (tm_no t)) log)) (tm_views.class_view (setting_of g (T (tm_no t))) (local_of g (T (tm_no t)) log) c) ≡ None
 
-pub t_still : (g : Input) (log : Log) (t : ℕ) → IsQuiet g log → 1 ≤ t → t ≤ g.catalogue.tms → IsStillT g log t
+pub t_still : (g : Input) (log : Log) (t : ℕ) → IsStill g log → 1 ≤ t → t ≤ g.catalogue.tms → IsStillT g log t
 t_still g log t h l m =
     let s = setting_of g (T (tm_no t)) in
     let lt = local_of g (T (tm_no t)) log in
@@ -89,7 +93,7 @@ pub record IsStillU (g : Input) (log : Log) : Type 0 where
   pub holds : (j t : ℕ) → slice_get (numbers_to g.catalogue.tms) j ≡ Some t
       → um.hold_due (um_views.view_of (setting_of g U) (local_of g U log)) (um_views.counts t (local_of g U log)) ≡ None
 
-pub u_still : (g : Input) (log : Log) → IsQuiet g log → IsStillU g log
+pub u_still : (g : Input) (log : Log) → IsStill g log → IsStillU g log
 u_still g log h =
     let lu = local_of g U log in
     let v = um_views.view_of (setting_of g U) lu in
@@ -106,7 +110,7 @@ u_still g log h =
     }
 
 -- of each class the active attempt, where there is one, has nothing to send and may not commit
-pub exchange_none : (g : Input) (log : Log) (c : ℕ) → IsQuiet g log → IsSoundCatalogue g.catalogue → IsClass g.catalogue c
+pub exchange_none : (g : Input) (log : Log) (c : ℕ) → IsStill g log → IsSoundCatalogue g.catalogue → IsClass g.catalogue c
     → attempt_due g.catalogue (base_of g log) c (active (setting_of g (home g.catalogue c)) c (at_home g c log)) ≡ None
 exchange_none g log c h sound l = elim (same_or_not c 0) [
   | inl p ↦ grind (arith, attempt_due, base_of, active, setting_of, home, at_home, u_still)
@@ -117,6 +121,6 @@ exchange_none g log c h sound l = elim (same_or_not c 0) [
 ]
 
 -- what isn't due at a data module
-pub d_still : (g : Input) (log : Log) (d : ℕ) → IsQuiet g log → IsModule g.catalogue d
+pub d_still : (g : Input) (log : Log) (d : ℕ) → IsStill g log → IsModule g.catalogue d
     → dm.due (dm_views.home_of (setting_of g (D (dm_no d)))) (dm_views.view_of (setting_of g (D (dm_no d))) (at_module g d log)) ≡ None
 d_still g log d h m = none_due g log (D (dm_no d)) h (d_site g.catalogue d m)

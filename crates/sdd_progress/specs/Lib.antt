@@ -11,6 +11,7 @@ pub mod Finished
 pub mod Free
 pub mod Going
 pub mod Heads
+pub mod Outage
 pub mod Premises
 pub mod Quiet
 pub mod Rejections

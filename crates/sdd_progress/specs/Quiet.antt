@@ -1,10 +1,16 @@
--- A log at which nothing goes on: nothing is under way on a link, nothing is due at a site, and every data module takes
--- part.
+-- Logs at which nothing goes on: nothing is under way on a link, and nothing is due at a site.
 use Rattle.std.specs.Prelude.{ℕ, ◌≡◌, false, true, None}
 use Rattle.sdd_obligations.specs.All.{D, Input, IsModule, IsPermitted, Log, all_links, calls_of, dm_no, hand_due, home, is_down, local_of, quiet, site_due}
 use Rattle.sdd_obligations.specs.site_module.SiteLog as site
 
--- nothing is in flight and nothing unacknowledged; no module is down; and neither an act nor a hand is due
+-- nothing is in flight and nothing unacknowledged, and neither an act nor a hand is due; data modules may be down
+pub record IsStill (g : Input) (log : Log) : Type 0 where
+  pub permitted : IsPermitted g log
+  pub links : quiet (all_links g) (calls_of log) ≡ true
+  pub no_act : site_due g log ≡ None
+  pub no_hand : hand_due g log ≡ None
+
+-- and no data module is down
 pub record IsQuiet (g : Input) (log : Log) : Type 0 where
   pub permitted : IsPermitted g log
   pub links : quiet (all_links g) (calls_of log) ≡ true

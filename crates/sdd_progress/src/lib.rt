@@ -1,7 +1,7 @@
 //! Progress: every run ends, quiet means finished, who waits and why, few attempts are rejected, and
 //! one class list follows the other.
 //!
-//! The one contract to the layer above, in six parts.
+//! The one contract to the layer above, in seven parts.
 //!
 //! - On every lawful log a round has an event, so that there are no more rounds than marks, and one
 //!   (`law_rounds_end`); once a settle has ended, nothing is in flight and everything is acknowledged
@@ -22,6 +22,9 @@
 //!   `law_committed`); then each copy is what a serial run leaves (`law_copies`). Such is every log
 //!   between events at which the links are quiet (`law_resting`), and every complete one after a
 //!   settle (`law_settled`).
+//! - Where data modules are down, a transaction of a declared class commits unless a module is down that
+//!   its class needs, itself or through the classes that it waits for, or an undeclared transaction isn't
+//!   done; and its changes are applied but where such a module is down (`law_outage`).
 //! - A transaction's rejected attempts are at most the Commits of other transactions
 //!   (`law_few_rejected`), so a run has at most the square of their number of attempts
 //!   (`law_few_attempts`).
@@ -40,6 +43,7 @@ mod few_rejected_worked;
 pub mod free_laws;
 pub mod instances;
 mod law;
+mod outage_law;
 mod parts;
 pub mod pipes_laws;
 mod quiet_law;
@@ -56,6 +60,7 @@ pub use law::{
     law_committed, law_copies, law_eras_of_log, law_finished, law_idle_at_redeclares,
     law_none_left, law_resting, law_settled,
 };
+pub use outage_law::law_outage;
 pub use parts::{law_class_zero, law_exchanges, law_handed, law_none_waits, law_unanswered};
 pub use quiet_law::{
     law_diagonals_listed, law_no_path_to_writer, law_no_ring_waits, law_table_fits,

@@ -4,7 +4,9 @@ use Rattle.sdd_progress.proofs.Committed.{all_committed as all_committed_of}
 use Rattle.sdd_progress.proofs.Finished.{finished}
 use Rattle.sdd_progress.proofs.IdleAtRedeclares.{idle_at_redeclares}
 use Rattle.sdd_progress.proofs.NoneWaits.{is_idle}
+use Rattle.sdd_progress.proofs.Outage.{complete_is_still, costs_no_more, resting_is_still}
 use Rattle.sdd_progress.proofs.Settled.{resting_is_quiet}
+use Rattle.sdd_progress.specs.Outage.{CostsNoMore}
 use Rattle.sdd_run.proofs.AtRest.{quiet_at_rest}
 use Rattle.sdd_run.proofs.Goods.{few_ticks}
 use Rattle.sdd_run.proofs.RunOf.{lawful_lists, lists, submit_given, up}
@@ -71,6 +73,24 @@ module _ (cat : Catalogue) (tables : List (List Entry)) (work : Workload) (sound
       let last = their (redeclares before) (omega arith) in
       let idle = is_idle g before q last (idle_at_redeclares g before submits.once rests.lawful their were_up) in
       all_committed_of g before q.permitted their (lawful_numbered g before submits rests.lawful) (finished g before q last.fits.sound idle)
+
+  -- an outage costs no more than what needs the modules that are down, at the end and between two events
+
+  pub outage : EndsQuiet (input_of cat tables work) log → CostsNoMore (input_of cat tables work) log
+  outage links =
+      let g : Input = input_of cat tables work in
+      costs_no_more g log (complete_is_still g log submits.once the_log.lawful the_log.complete links) current_era
+      (idle_at_redeclares g log submits.once the_log.lawful current_era (up cat tables work sound valid tabled log the_log))
+
+  pub outage_before : (later before : Log) → log ≡ later ++ before → Rests (input_of cat tables work) before
+      → EndsQuiet (input_of cat tables work) before → CostsNoMore (input_of cat tables work) before
+  outage_before later before is rests links =
+      let g : Input = input_of cat tables work in
+      let their = lawful_lists cat tables work sound valid tabled before rests.lawful in
+      let were_up = up_at_redeclares g before (few_ticks (whole_in cat work) (length work.txns) work.events (events_valid cat work valid))
+      rests.lawful (timely cat tables work valid tabled) in
+      costs_no_more g before (resting_is_still g before submits.once rests links) their
+      (idle_at_redeclares g before submits.once rests.lawful their were_up)
 
   pub settled : IsOrderable (whole_in cat work) (history log) → IsSerial (whole_in cat work) (history log) (order_of cat work log)
       → EndsQuiet (input_of cat tables work) log → NoneIsDown (whole_in cat work) log → TellsAllCommitted (report_of (input_of cat tables work) log)

@@ -24,6 +24,7 @@ use Rattle.sdd_world.specs.Copies.{rows_left, tables_of}
 use Rattle.sdd_progress.specs.Committed.{AllCommitted}
 use Rattle.sdd_progress.specs.Few.{AreFewRejected}
 use Rattle.sdd_progress.specs.Free.{IsFree}
+use Rattle.sdd_progress.specs.Outage.{CostsNoMore}
 use Rattle.sdd_run.specs.Free.{IsUndisturbed}
 use Rattle.sdd_run.specs.Settled.{EndsAtRest, EndsQuiet, LosesNothing, NoneIsDown, TellsAllCommitted}
 use Rattle.sdd_run.specs.ComesBefore.{ComesBefore, IsSubmittedBefore, times_in}
@@ -110,13 +111,19 @@ pub record IsReportOn (cat : Catalogue) (work : Workload) (text : List ℕ) : Ty
   -- message of a transaction or data module: never for one of U.
   pub reasons : (one : Pending) → Contains (report_of (input_of cat tables work) log).pending one → IsReason (whole_in cat work) one.why
   -- Where a settle or a redeclare is the last event, the links are quiet at the end. Where they are, and no data module is
-  -- down then, each transaction that was submitted is committed, so it stands in the order, and none is pending; and each
-  -- copy lists the rows that this database is left with.
+  -- down then, each transaction that was submitted is committed, so it stands in the order, and none is pending.
   pub quiet : EndsAtRest work.events → EndsQuiet (input_of cat tables work) log
   pub settled : EndsQuiet (input_of cat tables work) log → NoneIsDown (whole_in cat work) log → TellsAllCommitted (report_of (input_of cat tables work) log)
   -- So it is at each moment between two events.
   pub settled_before : (later before : Log) → log ≡ later ++ before → Rests (input_of cat tables work) before
       → EndsQuiet (input_of cat tables work) before → NoneIsDown (whole_in cat work) before → AllCommitted (history before)
+  -- At such a moment, and at the end, an outage of data modules costs no more than what needs them: a transaction of a declared
+  -- class commits unless an attempt of its class needs a module that is down, or an undeclared transaction isn't done; and its
+  -- change is applied at a copy unless the copy's module is down, or one that the passing of its class needs.
+  pub outage : EndsQuiet (input_of cat tables work) log → CostsNoMore (input_of cat tables work) log
+  pub outage_before : (later before : Log) → log ≡ later ++ before → Rests (input_of cat tables work) before
+      → EndsQuiet (input_of cat tables work) before → CostsNoMore (input_of cat tables work) before
+  -- Where no data module is down at the end, each copy lists the rows that this database is left with.
   pub left : EndsQuiet (input_of cat tables work) log → NoneIsDown (whole_in cat work) log
       → (copy : CopyTable) → Contains (tables_of (input_of cat tables work) log) copy
       → copy.rows ≡ rows_left (whole_in cat work) (plain_run cat work log).1 copy.frag.0

@@ -22,16 +22,18 @@ def needs_of(cat):
              if entry.edge.kind == "diagonal" and entry.protocol != "P1"}
     attempt = {c: {("T", one.tm)} | {("D", dm) for _, dm in one.reads} for c, one in enumerate(cat.classes, 1)}
     passing = {c: set() for c in attempt}
+    at = {c: {dm for _, dm in one.reads} for c, one in enumerate(cat.classes, 1)}
+    # a READ that waits for j and for m holds a WRITE of j until m has passed; where j reads too, its READ queues behind that
+    held = [(reader, j, m) for reader, j in waits for other, m in waits if other == reader]
+    queues = {(j, m) for reader, j, m in held if at[reader] & at[j]}
     count = -1
     while count != (count := sum(len(found) for needs in (attempt, passing) for found in needs.values())):
-        for c, j in waits:
+        for c, j in waits | queues:
             attempt[c] |= passing[j]
         for j in passing:
             passing[j] |= attempt[j]
-        for reader, j in waits:             # a READ that waits for j holds a WRITE of m, where it waits for m too
-            for other, m in waits:
-                if other == reader:
-                    passing[j] |= passing[m]
+        for _, j, m in held:
+            passing[j] |= passing[m]
     return attempt, passing
 
 

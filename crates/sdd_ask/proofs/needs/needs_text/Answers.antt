@@ -1,4 +1,4 @@
-use Rattle.sdd_ask.proofs.All.{All, Entry, NamesClasses, Tells, ap, begins, closed, flag_at, flags_of, length, moves, needed_by, needs_text, subst, sym, waits_for, ◌++◌, ◌∙◌}
+use Rattle.sdd_ask.proofs.All.{All, Entry, NamesClasses, Tells, ap, awaits, begins, closed, flag_at, flags_of, length, moves, needed_by, needs_text, subst, sym, waits_for, ◌++◌, ◌∙◌}
 use Rattle.sdd_ask.proofs.Cells.{tells_flags}
 use Rattle.sdd_ask.proofs.Entries.{entries_named}
 use Rattle.sdd_ask.proofs.Telling.{is_needs_text}
@@ -30,15 +30,17 @@ returns c =
     let w = c.in_ok-waits.waits.items in
     let m = c.in_ok-moves.moves.items in
     let p = c.in_ok-passing.passing.items in
+    let a = c.in_ok-awaited.awaited.items in
     let b = c.in_ok-begun.begun.items in
-    is_needs_text cat c.in_ok-table.table w m p b c.put_needs.new.out.items c.in_ok-table.ensures c.law_is_sound.ensures.whole
+    is_needs_text cat c.in_ok-table.table w m p a b c.put_needs.new.out.items c.in_ok-table.ensures c.law_is_sound.ensures.whole
     (subst (λ z. Tells w (waits_for z)) c.entries.ensures c.in_ok-waits.ensures)
     (c.in_ok-moves.ensures ∙ ap (λ z. flags_of (moves (flag_at z))) c.deref.ensures.value)
     (subst (λ z. Tells p (closed (flag_at z) WIDTH)) c.deref-2.ensures.value c.in_ok-passing.ensures)
+    (c.in_ok-awaited.ensures ∙ ap (λ z. flags_of (awaits cat (flag_at z))) c.deref-3.ensures.value)
     (c.in_ok-begun.ensures
-    ∙ ap (λ z. flags_of (begins (flag_at z) (flag_at c.deref-4.result.now))) c.deref-3.ensures.value
-    ∙ ap (λ z. flags_of (begins (flag_at w) (flag_at z))) c.deref-4.ensures.value)
+    ∙ ap (λ z. flags_of (begins (flag_at z) (flag_at c.deref-5.result.now))) c.deref-4.ensures.value
+    ∙ ap (λ z. flags_of (begins (flag_at a) (flag_at z))) c.deref-5.ensures.value)
     (c.in_ok-put_needs.ensures
-    ∙ ap (λ z. z ++ needs_text cat (needed_by cat (flag_at c.deref-5.result.now) (flag_at c.deref-6.result.now))) c.new-text.ensures.items
-    ∙ ap (λ z. needs_text cat (needed_by cat (flag_at z) (flag_at c.deref-6.result.now))) c.deref-5.ensures.value
-    ∙ ap (λ z. needs_text cat (needed_by cat (flag_at b) (flag_at z))) c.deref-6.ensures.value)
+    ∙ ap (λ z. z ++ needs_text cat (needed_by cat (flag_at c.deref-6.result.now) (flag_at c.deref-7.result.now))) c.new-text.ensures.items
+    ∙ ap (λ z. needs_text cat (needed_by cat (flag_at z) (flag_at c.deref-7.result.now))) c.deref-6.ensures.value
+    ∙ ap (λ z. needs_text cat (needed_by cat (flag_at b) (flag_at z))) c.deref-7.ensures.value)

@@ -1,0 +1,4 @@
+pub mod Examples
+pub mod Needs
+pub mod Tasks
+pub mod Waiting
