@@ -1,0 +1,3 @@
+pub mod ClassRejections
+pub mod RoundsOnLinks
+pub mod SettleRounds
