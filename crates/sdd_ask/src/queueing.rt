@@ -14,7 +14,11 @@ use std::alloc::Global;
 
 /// Which class's attempt awaits that which has passed a time: one for which the class waits, or for
 /// which a read waits that may hold the class's own writes back.
-pub(crate) fn awaits(alloc: Global, catalogue: &Catalogue, waits: &[bool]) -> Result<Vec<bool>, NoMemory>
+pub(crate) fn awaits(
+    alloc: Global,
+    catalogue: &Catalogue,
+    waits: &[bool],
+) -> Result<Vec<bool>, NoMemory>
     ensures { IfOk result (λ flags. flags.items ≡ flags_of (awaits catalogue.now (flag_at waits.now))) }
 {
     Ok(

@@ -65,13 +65,14 @@ acking_step C (Ack k) f b l h =
     })
 
 pub acking_done : {M : Type 0} (C : Type 0) (l : Link M) → IsAcking C [] [] l → IsEmptied l × (C → IsCovered l)
-acking_done C l h =
-    (record { there = h.there; back = h.back },
-    λ c. record {
-      acks = record { there = subst AreAcks (sym h.there) tt; back = subst AreAcks (sym h.back) tt };
-      there = subst (IsAcked (length l.there.sent) l.there.acked) (sym h.back) (h.covered c);
-      back = subst (IsAcked (length l.back.sent) l.back.acked) (sym h.there) (h.covered_back c);
-    })
+acking_done C l h = (
+  record { there = h.there; back = h.back },
+  λ c. record {
+    acks = record { there = subst AreAcks (sym h.there) tt; back = subst AreAcks (sym h.back) tt };
+    there = subst (IsAcked (length l.there.sent) l.there.acked) (sym h.back) (h.covered c);
+    back = subst (IsAcked (length l.back.sent) l.back.acked) (sym h.there) (h.covered_back c);
+  },
+)
 
 -- Third: all messages from the first unacknowledged one on are delivered, so that an acknowledgement of the last is put.
 

@@ -121,11 +121,11 @@ by_round g es later log is h =
           absurd (false≢true (sym b.1 ∙ quiet_at_last g.catalogue.tms g.catalogue.dms (calls_of (later ++ log))
           (subst (λ n. AreAtStage g.catalogue.tms g.catalogue.dms n (calls_of (later ++ log))) four now)))
       | no fewer ↦ record {
-          since = suc h.since;
-          few = omega (arith, fewer);
-          rounds_are = omega (arith, h.rounds_are);
-          are_since = record { before = later ++ log; done = []; at_stage = now; whole = b.2; calls = refl };
-        }
+        since = suc h.since;
+        few = omega (arith, fewer);
+        rounds_are = omega (arith, h.rounds_are);
+        are_since = record { before = later ++ log; done = []; at_stage = now; whole = b.2; calls = refl };
+      }
     ]
 
 by_event : (g : Input) (e : Event) (later log : Log) → next g (later ++ log) ≡ Some (Mark e)

@@ -135,20 +135,22 @@ module _ {M : Type 0} (tms dms : ℕ) (calls : List (Call M)) where
         λ i. record { there = end.there i; back = end.back i }
 
     delivered_on : IsDelivered (resent old) (link a b (all_carried_out deliveries once_resent))
-    delivered_on = record { keeps = λ P turns step h.
-        let n : hits a b deliveries ≡ length (resent old).there.flight =
-        hits_once {M = M} (deliver 1) (λ l. Deliver l.0 l.1 1) by_delivery to_deliver tms dms a b linked
-        ∙ sym (flight_length (resends_now old) old.there) in
-        let m : hits b a deliveries ≡ length (resent old).back.flight =
-        hits_once {M = M} (deliver 1) (λ l. Deliver l.0 l.1 1) by_delivery to_deliver tms dms b a (link_back tms dms a b linked)
-        ∙ ap in_flight turned_is ∙ sym (flight_length (resends_now (turned old)) old.back) in
-        let start : AreToCome P (hits a b deliveries) (hits b a deliveries) (resent old) =
-        record { there = (resent old).there.flight; back = (resent old).back.flight; there_are = sym n; back_are = sym m; holds = h } in
-        let end = all_keep (deliver 1) (AreToCome P) (λ y x. AreToCome P y x) (come_turned P turns step) (λ x y l k. come_turned P turns step y x l k)
-        (come_step P turns step) (λ x y l k. come_step P turns step y x l k) a b deliveries once_resent differ
-        (all_do {M = M} (deliver 1) (λ l. Deliver l.0 l.1 1) by_delivery to_deliver all)
-        (subst (AreToCome P (hits a b deliveries) (hits b a deliveries)) (sym resent_is) start) in
-        no_more P turns step (link a b (all_carried_out deliveries once_resent)) end.there end.back end.there_are end.back_are end.holds }
+    delivered_on = record {
+      keeps = λ P turns step h.
+          let n : hits a b deliveries ≡ length (resent old).there.flight =
+          hits_once {M = M} (deliver 1) (λ l. Deliver l.0 l.1 1) by_delivery to_deliver tms dms a b linked
+          ∙ sym (flight_length (resends_now old) old.there) in
+          let m : hits b a deliveries ≡ length (resent old).back.flight =
+          hits_once {M = M} (deliver 1) (λ l. Deliver l.0 l.1 1) by_delivery to_deliver tms dms b a (link_back tms dms a b linked)
+          ∙ ap in_flight turned_is ∙ sym (flight_length (resends_now (turned old)) old.back) in
+          let start : AreToCome P (hits a b deliveries) (hits b a deliveries) (resent old) =
+          record { there = (resent old).there.flight; back = (resent old).back.flight; there_are = sym n; back_are = sym m; holds = h } in
+          let end = all_keep (deliver 1) (AreToCome P) (λ y x. AreToCome P y x) (come_turned P turns step) (λ x y l k. come_turned P turns step y x l k)
+          (come_step P turns step) (λ x y l k. come_step P turns step y x l k) a b deliveries once_resent differ
+          (all_do {M = M} (deliver 1) (λ l. Deliver l.0 l.1 1) by_delivery to_deliver all)
+          (subst (AreToCome P (hits a b deliveries) (hits b a deliveries)) (sym resent_is) start) in
+          no_more P turns step (link a b (all_carried_out deliveries once_resent)) end.there end.back end.there_are end.back_are end.holds;
+    }
 
     pub to_next_stage : (k : ℕ) → IsAtStage k (link a b calls) → IsAtStage (suc k) (link a b (all_carried_out (round (links tms dms) calls) calls))
     to_next_stage k h =
