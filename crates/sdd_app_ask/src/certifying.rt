@@ -37,10 +37,7 @@ fn report_answer<S: Shelf>(
         → IfErr result (λ s. s ≡ Status.ReadFault → ⊥) × (S.faults shelf.new ≡ S.faults shelf.old) }
 {
     let bytes = read_named(alloc, shelf, report, MAX_REPORT_BYTES)?;
-    Ok(Pages::of(
-        alloc,
-        certify(alloc, catalogue, work, bytes.as_slice())?,
-    ))
+    Ok(Pages::of(alloc, certify(alloc, catalogue, work, bytes.as_slice())?))
 }
 
 /// What `certify` answers over the catalogue in the first file, the workload in the second and the

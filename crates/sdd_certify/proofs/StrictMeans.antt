@@ -99,7 +99,7 @@ strict_again report s =
       is = all_none (late_on names) [] before
           (λ k lt. none_late names (last_committed names (take k before)) (place_of names (submission_on (get_or before k [])))
           (λ some less.
-              let r = reached place before 0 k (omega (arith, lt)) (omega (arith, some, less)) in
-              both_named names (commit_on (line_at before r.at)) (submission_on (line_at before k)) (last_committed names (take k before)) r.is some less
-              (λ first later stands told submitted. s.strict first later stands r.at k r.less lt told submitted)));
+          let r = reached place before 0 k (omega (arith, lt)) (omega (arith, some, less)) in
+          both_named names (commit_on (line_at before r.at)) (submission_on (line_at before k)) (last_committed names (take k before)) r.is some less
+          (λ first later stands told submitted. s.strict first later stands r.at k r.less lt told submitted)));
     })

@@ -39,11 +39,7 @@ fn txn_named<'a>(txns: &'a [Txn], name: &[u8]) -> Option<&'a Txn>
 }
 
 /// Adds the transaction of this name, where there is one.
-fn add_named<'a>(
-    found: &mut Vec<&'a Txn>,
-    txns: &'a [Txn],
-    name: &[u8],
-) -> Result<(), NoMemory>
+fn add_named<'a>(found: &mut Vec<&'a Txn>, txns: &'a [Txn], name: &[u8]) -> Result<(), NoMemory>
     ensures { IfOk result (λ _. map (λ t. t.now) found.new.items
         ≡ map (λ t. t.now) found.old.items ++ txns_named txns.now (name.now ∷ [])) }
 {

@@ -25,7 +25,7 @@ impl<'a> Model for OrderNames<'a> {
     ghost use Rattle.std.specs.Prelude.{ℕ, ◌≡◌, List, map};
     ghost use Rattle.std.specs.BTreeMap.{get};
     ghost use Rattle.std.specs.Cmp.Lexicographic.{slice_cmp};
-        ghost use Rattle.std.specs.Ordering.{nat_cmp};
+    ghost use Rattle.std.specs.Ordering.{nat_cmp};
     ghost use Rattle.sdd_certify.specs.Places.{place_in};
 
     ghost Value = { List (List ℕ) };

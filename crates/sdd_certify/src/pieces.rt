@@ -9,8 +9,10 @@ ghost use Rattle.sdd_verify.specs.Verified.{IsVerified};
 /// what the others reply on the database that these left.
 pub fn law_in_parts()
     ensures { (catalogue : Catalogue) (db : Database) (front rest : List Txn) → serial catalogue db (front ++ rest)
-        ≡ ((serial catalogue db front).0 ++ (serial catalogue (serial catalogue db front).1 rest).0,
-        (serial catalogue (serial catalogue db front).1 rest).1) }
+        ≡ (
+          (serial catalogue db front).0 ++ (serial catalogue (serial catalogue db front).1 rest).0,
+          (serial catalogue (serial catalogue db front).1 rest).1,
+        ) }
 {}
 
 /// Two reports, the second of a workload that begins with the rows that the first report's order
