@@ -53,7 +53,7 @@ fn meets(catalogue: &Catalogue, c: u32, r: u32) -> bool
 }
 
 fn read_at_one(catalogue: &Catalogue, c: u32, r: u32) -> bool
-    requires { IsClassOf catalogue.now c }
+    requires own { IsClassOf catalogue.now c }
     requires other { IsClassOf catalogue.now r }
     ensures { result ≡ read_at_one catalogue.now c r }
 {
