@@ -3,7 +3,7 @@ use Rattle.std.specs.Prelude.{ℕ, ◌≤◌, ◌==◌, ◌&&◌, ◌≡◌, Boo
 use Rattle.sdd_obligations.specs.All.{Commit, History, Rec, Reject, Start, class_no, dm_no, time_at, txn_no}
 use Rattle.sdd_obligations.specs.base.declared.reply.Reply.TheVariants.{Overflow}
 use Rattle.sdd_obligations.specs.serial_orders.Attempts.{committed}
-use Rattle.sdd_progress.specs.Few.{is_rejected, twice}
+use Rattle.sdd_progress.specs.Few.{is_rejected}
 
 -- the Starts of the class whose attempts some module rejects: one each, however many modules reject the attempt
 
@@ -41,7 +41,3 @@ worked_rejected = (refl, refl)
 
 pub worked_elsewhere : (committed_elsewhere two_rejected 1 ≡ 2) × (committed_elsewhere two_rejected 2 ≡ 1)
 worked_elsewhere = (refl, refl)
-
--- an attempt that two modules reject counts once
-pub worked_twice : rejected_of_class twice 1 ≡ 1
-worked_twice = refl
