@@ -99,15 +99,15 @@ one_other h c k r s o u =
     elim u [
       | inl n ↦ inl (record { count = omega (arith, n.count); none = λ d sd e l. n.none d sd e (omega (arith, o.1 d sd e)) })
       | inr x ↦ inr (record {
-          last = x.last;
-          started = x.started;
-          class_is = x.class_is;
-          before = omega (arith, x.before);
-          latest = λ d sd e l. x.latest d sd e (omega (arith, o.1 d sd e));
-          writers = x.writers;
-          are = x.are;
-          count = omega (arith, x.count);
-        })
+        last = x.last;
+        started = x.started;
+        class_is = x.class_is;
+        before = omega (arith, x.before);
+        latest = λ d sd e l. x.latest d sd e (omega (arith, o.1 d sd e));
+        writers = x.writers;
+        are = x.are;
+        count = omega (arith, x.count);
+      })
     ]
 
 module _ (cat : Catalogue) (eras : Eras) (txns : List Txn) (h : History) (starting : KeepsStarts cat eras txns h) (rejecting : KeepsRejections cat eras h)
@@ -210,8 +210,12 @@ module _ (cat : Catalogue) (eras : Eras) (txns : List Txn) (h : History) (starti
             | inl rejected ↦
                 let one : one_if_so (is_rejected h x.last.txn x.last.number) ≡ 1 = ap one_if_so rejected in
                 let w = last_writer c x.last x.started x.class_is rejected in
-                omega (arith, x.count, few_writers h one_place c (suc w.0.start.ts) (w.0 ∷ x.writers)
-                (w.1.committed, w.1.elsewhere, omega arith, writers_up h c (low_time x.last) w.0.start.ts x.writers w.1.least x.are))
+                omega (
+                  arith,
+                  x.count,
+                  few_writers h one_place c (suc w.0.start.ts) (w.0 ∷ x.writers)
+                      (w.1.committed, w.1.elsewhere, omega arith, writers_up h c (low_time x.last) w.0.start.ts x.writers w.1.least x.are),
+                )
             | inr not_rejected ↦
                 let none : one_if_so (is_rejected h x.last.txn x.last.number) ≡ 0 = ap one_if_so not_rejected in
                 omega (arith, x.count, few_writers h one_place c (low_time x.last) x.writers x.are)

@@ -63,5 +63,9 @@ module _ (h : History) (one_start : (a b : Attempt) → IsAttempt h a → IsAtte
 
   pub few_writers : (c bound : ℕ) (ts : List Committed) → AreWriters h c bound ts → length ts ≤ committed_elsewhere h c
   few_writers c bound ts w =
-      omega (arith, length-le_from_is_member nat_eq_equiv (map time_of ts) (map time_of (filter (elsewhere c) (committed h))) (times_differ h c bound ts w) (each_among c bound ts w),
-      length-map ts time_of, length-map (filter (elsewhere c) (committed h)) time_of)
+      omega (
+        arith,
+        length-le_from_is_member nat_eq_equiv (map time_of ts) (map time_of (filter (elsewhere c) (committed h))) (times_differ h c bound ts w) (each_among c bound ts w),
+        length-map ts time_of,
+        length-map (filter (elsewhere c) (committed h)) time_of,
+      )

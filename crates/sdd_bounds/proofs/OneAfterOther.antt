@@ -80,10 +80,11 @@ module _ (cat : Catalogue) (eras : Eras) (txns : List Txn) (h : History) (starti
           let time = g.writer_time in
           let low : low_time g.earlier ≤ g.writer.start.ts = omega arith in
           let other : g.writer.start.class ≢ c = λ is. other_class (catalogue_at cat eras (event_at h g.earlier.place)) cat g.condition.table g.earlier g.dm g.cond
-          g.condition.table_is g.condition.there (g.class_is ∙ sym g.writer_class ∙ is ∙ sym class) in
-          (g.writer,
-          record { committed = g.committed; elsewhere = other; least = subst (λ (x : Attempt). low_time x ≤ g.writer.start.ts) same low },
-          low_is a.p2 a.ts (suc g.writer.start.ts) (λ none. let below = g.below in omega arith) (λ p2 is. let below = g.below_bound p2 is in omega arith))
+          g.condition.table_is g.condition.there (g.class_is ∙ sym g.writer_class ∙ is ∙ sym class) in (
+            g.writer,
+            record { committed = g.committed; elsewhere = other; least = subst (λ (x : Attempt). low_time x ≤ g.writer.start.ts) same low },
+            low_is a.p2 a.ts (suc g.writer.start.ts) (λ none. let below = g.below in omega arith) (λ p2 is. let below = g.below_bound p2 is in omega arith),
+          )
 
       -- of another, which starts only once the one before is committed: by the first attempt then
       not_other : a.txn ≢ b.txn → is_rejected h b.txn b.number ≡ true → ⊥

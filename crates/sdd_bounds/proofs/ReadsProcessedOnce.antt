@@ -23,8 +23,14 @@ more_processed g c d r sends m later before p e =
     let l : site.Log = local_of g (D d) before in
     let x = local_grows g (D d) later (Does (D d) act ∷ before) in
     let is : local_of g (D d) (later ++ Does (D d) act ∷ before) ≡ x.0 ++ Did act ∷ l = x.1 ∙ ap (λ y. x.0 ++ y) (own_act g (D d) act before) in
-    omega (arith, ap (λ y. length (pipe c y).processed) is, processed_grows c x.0 (Did act ∷ l), ap (λ (q : Pipe). length q.processed) (own_record c r sends l p).0,
-    ap length (processed_more (pipe c l) m e), length-append (pipe c l).processed (m ∷ []))
+    omega (
+      arith,
+      ap (λ y. length (pipe c y).processed) is,
+      processed_grows c x.0 (Did act ∷ l),
+      ap (λ (q : Pipe). length q.processed) (own_record c r sends l p).0,
+      ap length (processed_more (pipe c l) m e),
+      length-append (pipe c l).processed (m ∷ []),
+    )
 
 -- its place among the puts of the class
 place_is : (g : Input) (log : Log) (d : DmNo) (c ts : ℕ) (r : Rec) → IsPermitted g log → (x : IsReadProcessed g log d c ts r)

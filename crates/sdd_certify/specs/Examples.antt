@@ -1,7 +1,8 @@
 -- Worked examples: p puts a row, and q, of another class, asks for all rows.
 use Rattle.std.specs.Prelude.{ℕ, ◌≡◌, [], ◌∷◌, ◌++◌, List, codes, pos, refl}
 use Rattle.std.specs.Fmt.{digits}
-use Rattle.sdd_script.specs.All.{Int, Put, Query, Ref, Settle, Submit, Txn, accounts, cut_lines, rel_no, tm_no, txn_no}
+use Rattle.sdd_words.specs.Lines.{cut_lines}
+use Rattle.sdd_script.specs.All.{Int, Put, Query, Ref, Settle, Submit, Txn, accounts, rel_no, tm_no, txn_no}
 use Rattle.sdd_script.specs.declared.workload.Workload.{Workload}
 use Rattle.sdd_certify.specs.Certificate.{certificate}
 use Rattle.sdd_certify.specs.Complete.{complete}
