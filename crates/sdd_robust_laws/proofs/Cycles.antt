@@ -1,15 +1,17 @@
 -- Under snapshot isolation with the first committer's rule, a cycle of precedence has a pivot: a run that missed a change of
 -- the member of the cycle that ended first, and of whose changes another member missed one.
-use Rattle.sdd_robust_laws.proofs.All.{Contains, Contains-cases, Contains-here, Contains-later, Contains-nil, IsOrderly, IsPath, List, [], arith, cases_lt, inl, inr, length, length-append, path_join, refl, subst, suc, sym, zero, ℕ, ◌++◌, ◌+◌, ◌<◌, ◌∙◌, ◌∷◌, ◌≡◌, ◌≢◌, ◌≤◌, ◌⊎◌}
+use Rattle.sdd_robust_laws.proofs.All.{Contains, Contains-cases, Contains-here, Contains-later, Contains-nil, IsOrderly, IsPath, List, arith, cases_lt, inl, inr, length, length-append, path_join, refl, subst, suc, sym, zero, ℕ, [], ◌++◌, ◌+◌, ◌<◌, ◌∙◌, ◌∷◌, ◌≡◌, ◌≢◌, ◌≤◌, ◌⊎◌}
 
--- runs that ended, by numbers: when each began and ended, which items it may have read, and which it changed
+-- runs that ended, by numbers: when each began and ended, which rows it changed, and which cells it may have read or touched
 pub record Ended : Type 1 where
   pub Is : ℕ → Type 0
   pub begin : ℕ → ℕ
   pub end : ℕ → ℕ
   pub Item : Type 0
-  pub Touches : ℕ → ℕ → Item → Type 0
   pub Changes : ℕ → Item → Type 0
+  pub Cell : Type 0
+  pub Reads : ℕ → Cell → Type 0
+  pub Touches : ℕ → Cell → Type 0
 
 -- each begins before it ends, and of two that change one item the one has ended when the other begins
 pub record IsKept (R : Ended) : Type 0 where
@@ -21,8 +23,8 @@ pub record IsKept (R : Ended) : Type 0 where
 -- read what the second changed, before that
 pub data Comes (R : Ended) (m n : ℕ) : Type 0 where
   both_change : (i : R.Item) → R.Is m → R.Is n → R.Changes m i → R.Changes n i → R.end m < R.end n → Comes R m n
-  sees : (i : R.Item) → R.Is m → R.Is n → R.Changes m i → R.Touches n m i → R.end m < R.begin n → Comes R m n
-  misses : (i : R.Item) → R.Is m → R.Is n → m ≢ n → R.Touches m n i → R.Changes n i → R.begin m ≤ R.end n → Comes R m n
+  sees : (i : R.Cell) → R.Is m → R.Is n → R.Touches m i → R.Reads n i → R.end m < R.begin n → Comes R m n
+  misses : (i : R.Cell) → R.Is m → R.Is n → m ≢ n → R.Reads m i → R.Touches n i → R.begin m ≤ R.end n → Comes R m n
 
 -- two that changed no item both
 abbrev pub AreBeside : Ended → ℕ → ℕ → Type 0
@@ -39,12 +41,12 @@ pub record HasPivot (R : Ended) : Type 0 where
   pub missing : ℕ
   pub is : R.Is pivot
   pub leads : Leads R pivot missed missing
-  pub unread : R.Item
-  pub reads : R.Touches pivot missed unread
-  pub was_changed : R.Changes missed unread
-  pub item : R.Item
-  pub changes : R.Changes pivot item
-  pub was_read : R.Touches missing pivot item
+  pub unread : R.Cell
+  pub reads : R.Reads pivot unread
+  pub was_touched : R.Touches missed unread
+  pub cell : R.Cell
+  pub touches : R.Touches pivot cell
+  pub was_read : R.Reads missing cell
 
 module _ (R : Ended) (kept : IsKept R) where
   abbrev Path : ℕ → List ℕ → ℕ → Type 0
@@ -133,15 +135,15 @@ module _ (R : Ended) (kept : IsKept R) where
       (shorter : NoneBelow (suc (length m))) (early : (z : ℕ) → Contains (c ∷ m) z → R.end c ≤ R.end z) (early_b : R.end c ≤ R.end b) where
     -- b missed a change of c
     record Missed : Type 0 where
-      unread : R.Item
-      reads : R.Touches b c unread
-      changed : R.Changes c unread
+      unread : R.Cell
+      reads : R.Reads b unread
+      touched : R.Touches c unread
       began : R.begin b ≤ R.end c
 
     missed_by : Comes R b c → Missed
     missed_by (both_change i p q x y l) = absurd (omega arith)
     missed_by (sees i p q x y l) = let f = kept.forward c q in absurd (omega arith)
-    missed_by (misses i p q o x y l) = record { unread = i; reads = x; changed = y; began = l }
+    missed_by (misses i p q o x y l) = record { unread = i; reads = x; touched = y; began = l }
 
     member_is : (m : List ℕ) (c : ℕ) → Path c m b → (z : ℕ) → Contains (c ∷ m) z → R.Is z
     member_is [] c p z h =
@@ -198,9 +200,9 @@ module _ (R : Ended) (kept : IsKept R) where
           leads = r.leads;
           unread = s.unread;
           reads = s.reads;
-          was_changed = s.changed;
-          item = i;
-          changes = y;
+          was_touched = s.touched;
+          cell = i;
+          touches = y;
           was_read = x;
         })
 

@@ -1,5 +1,5 @@
 -- The first committer wins: of two that ended and changed one item, the one had ended when the other began.
-use Rattle.sdd_robust_laws.proofs.All.{Catalogue, Change, Contains, Contains-cases, Contains-here, Contains-later, Contains-nil, Effect, FirstWins, HasSessions, Log, [], ap, arith, begin_of, begins, begun, change_one_item, cond, contains, differ, end_of, ended, ended_since, ends, eq-eqb, false≢true, inl, inr, is_eq, item_cmp, item_cmp_total, item_of, length, list_any, member_is, ne_eqb, other_time, passes_member, subst, suc, sym, tied_itself, times, true, with_head, ℕ, ◌<◌, ◌∙◌, ◌∷◌, ◌≡◌, ◌≢◌, ◌⊎◌}
+use Rattle.sdd_robust_laws.proofs.All.{Catalogue, Change, Contains, Contains-cases, Contains-here, Contains-later, Contains-nil, Effect, FirstWins, HasSessions, List, Log, Txn, ap, arith, begin_of, begins, begun, change_one_item, cond, contains, differ, end_of, ended, ended_since, ends, eq-eqb, false, false≢true, inl, inr, is_eq, item_cmp, item_cmp_total, item_of, length, list_any, member_is, ne_eqb, other_time, passes_member, refl, subst, suc, sym, tied_itself, times, true, with_head, ℕ, [], ◌<◌, ◌==◌, ◌∙◌, ◌∷◌, ◌≡◌, ◌≢◌, ◌≤◌, ◌⊎◌}
 
 abbrev Sessions : Log → Type 0
 Sessions = HasSessions (λ n. n)

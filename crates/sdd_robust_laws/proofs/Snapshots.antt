@@ -1,5 +1,5 @@
 -- What is known of a run under snapshot isolation: the databases on which its effects are made.
-use Rattle.sdd_robust_laws.proofs.All.{All, All-contains, Catalogue, Change, ChangesItems, Contains, Database, Effect, FitsTxn, HasSessions, InTurn, IsDatabase, IsSoundCatalogue, IsWorkload, Item, List, Log, None, Option, PutsHeld, Row, SeesSnapshots, Some, Txn, [], after_changes, and_parts, ap, begins, begun, changed_at, changes_items, changes_stay, contains, database, effect, effect_once, ends, false≢true, inl, inr, is_in, is_some, item_of, list_any, may_delete, not, not-true, passes_member, refl, row_at, some_change, stays, subst, sym, true, untouched_at, with_head, ℕ, ◌∙◌, ◌∷◌, ◌≡◌}
+use Rattle.sdd_robust_laws.proofs.All.{All, All-contains, Bool, Catalogue, Change, ChangesItems, Contains, Database, Effect, FitsTxn, HasSessions, InTurn, IsDatabase, IsSoundCatalogue, IsWorkload, Item, List, Log, None, Option, PutsHeld, Row, SeesSnapshots, Some, Stmt, Txn, after_changes, and_parts, ap, begins, begun, changed_at, changes_items, changes_stay, contains, database, effect, effect_once, ended, ends, false, false≢true, inl, inr, is_in, is_some, item_of, list_any, may_delete, not, not-true, passes_member, refl, row_at, some_change, stays, subst, sym, true, untouched_at, with_head, ℕ, [], ◌∙◌, ◌∷◌, ◌≡◌}
 use Rattle.sdd_robust_laws.proofs.Changed.{change_explained}
 
 -- each run is a session of its own
@@ -8,6 +8,12 @@ sessions [] r = tt
 sessions (begins n ∷ log) r =
     ((r.0, (λ m e h. absurd (false≢true (sym r.0 ∙ subst (λ z. contains (begun log) z ≡ true) e h)))), sessions log r.1)
 sessions (ends n ∷ log) r = (r.0, sessions log r.1)
+
+-- runs of which each is a session of its own begin once, and end once
+pub in_turn : (log : Log) → HasSessions (λ n. n) log → InTurn log
+in_turn [] r = tt
+in_turn (begins n ∷ log) r = (r.0.0, in_turn log r.1)
+in_turn (ends n ∷ log) r = (r.0, in_turn log r.1)
 
 module _ (cat : Catalogue) (sound : IsSoundCatalogue cat) (work : List Txn) (of : IsWorkload cat work) (first : Database) (first_is : IsDatabase cat first)
     (txns : ℕ → Txn) (in_work : (n : ℕ) → Contains work (txns n)) (effects : ℕ → Effect) where

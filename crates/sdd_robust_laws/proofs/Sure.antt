@@ -1,5 +1,5 @@
 -- Where a statement changes a key, a transaction that commits has a change of it.
-use Rattle.sdd_robust_laws.proofs.All.{Assign, Bool, Catalogue, Change, Changed, Condition, Contains, Contains-map, Database, Delete, Effect, IsIn, Item, List, MAX_REPLY_ROWS, None, Option, Overflow, Put, Query, RelNo, Row, Some, Stmt, TooMany, Update, [], answer, arith, change_of, chosen, cond, effect_from, entry_at, failed_effect, false, false≢true, fragment_of, if◌then◌else◌, inl, inr, is_at, is_some, item_cmp, item_cmp_exact, item_cmp_total, key_in, length, lookup, nat_lt, put_in, refl, rows_in, subst, succeeds, sym, test_own, true, with_change, with_deletes, with_updates, ℕ, ℤ, ◌++◌, ◌+◌, ◌∷◌, ◌≡◌}
+use Rattle.sdd_robust_laws.proofs.All.{Assign, Bool, Catalogue, Change, Changed, Condition, Contains, Contains-map, Database, Delete, Effect, IsIn, Item, List, MAX_REPLY_ROWS, None, Option, Overflow, Put, Query, RelNo, Row, Some, Stmt, TooMany, Update, answer, arith, change_of, chosen, cond, effect_from, entry_at, failed_effect, false, false≢true, fragment_of, if◌then◌else◌, inl, inr, is_at, is_some, item_cmp, item_cmp_exact, item_cmp_total, key_in, length, lookup, nat_lt, put_in, refl, rows_in, subst, succeeds, sym, test_own, true, with_change, with_deletes, with_updates, ℕ, ℤ, [], ◌++◌, ◌+◌, ◌∷◌, ◌≡◌}
 
 -- once a key has a change, it keeps one
 
@@ -32,6 +32,14 @@ module _ (cat : Catalogue) (k : Key) where
   deletes_keep : (changed : Changed) (es : Database) → HasKey k changed → HasKey k (with_deletes cat changed es)
   deletes_keep changed [] h = h
   deletes_keep changed (e ∷ es) h = deletes_keep (with_change cat changed e.0.0 e.0.1 None) es (change_keeps changed e.0.0 e.0.1 None h)
+
+  -- of each row that is deleted there is a change
+  deletes_put : (changed : Changed) (es : Database) (x : Item × Row) → IsIn x es → (fragment_of cat x.0.0 x.0.1, x.0.1) ≡ k → HasKey k (with_deletes cat changed es)
+  deletes_put changed [] x h same = absurd h
+  deletes_put changed (f ∷ es) x (inl here) same =
+      deletes_keep (with_change cat changed f.0.0 f.0.1 None) es
+      (change_puts changed f.0.0 f.0.1 None (subst (λ (z : Item × Row). (fragment_of cat z.0.0 z.0.1, z.0.1) ≡ k) here same))
+  deletes_put changed (f ∷ es) x (inr later) same = deletes_put (with_change cat changed f.0.0 f.0.1 None) es x later same
 
   updates_keep : (sets : List Assign) (changed next : Changed) (es : Database) → HasKey k changed → with_updates cat sets changed es ≡ Some next → HasKey k next
   updates_keep sets changed next [] h e = let same : changed ≡ next = cc in subst (HasKey k) same h
@@ -98,6 +106,8 @@ module _ (cat : Catalogue) (k : Key) where
     puts : (rel : RelNo) (row : Row) → (fragment_of cat rel.0 (key_in cat rel.0 row), key_in cat rel.0 row) ≡ k → Changes db (Put rel row)
     updates : (rel : RelNo) (sets : List Assign) (conds : List Condition) (x : Item × Row) → IsIn x (chosen db rel.0 conds)
         → (fragment_of cat x.0.0 x.0.1, x.0.1) ≡ k → Changes db (Update rel sets conds)
+    deletes : (rel : RelNo) (conds : List Condition) (x : Item × Row) → IsIn x (chosen db rel.0 conds)
+        → (fragment_of cat x.0.0 x.0.1, x.0.1) ≡ k → Changes db (Delete rel conds)
 
   -- so it is changed where the transaction commits
   pub some_changes : (db : Database) (statements : List Stmt) (answers : List (List Row)) (changed : Changed) (s : Stmt) → IsIn s statements → Changes db s
@@ -118,10 +128,11 @@ module _ (cat : Catalogue) (k : Key) where
       own_update (updates r ss cs x h at) =
           after_update (with_updates cat sets changed (chosen db rel.0 conds)) (effect_from cat db rest answers)
           (λ next e. kept_to_end db rest answers next (updates_put sets changed next (chosen db rel.0 conds) x h at e))
-  some_changes db (Delete rel conds ∷ rest) answers changed s (inl e) c = no_delete (subst (Changes db) e c)
+  some_changes db (Delete rel conds ∷ rest) answers changed s (inl e) c = own_delete (subst (Changes db) e c)
     where
-      no_delete : Changes db (Delete rel conds) → Commits (effect_from cat db (Delete rel conds ∷ rest) answers changed)
-      no_delete c = elim c [ ]
+      own_delete : Changes db (Delete rel conds) → Commits (effect_from cat db (Delete rel conds ∷ rest) answers changed)
+      own_delete (deletes r cs x h at) =
+          kept_to_end db rest answers (with_deletes cat changed (chosen db rel.0 conds)) (deletes_put changed (chosen db rel.0 conds) x h at)
   some_changes db (Put rel row ∷ rest) answers changed s (inr h) c = some_changes db rest answers (with_change cat changed rel.0 (key_in cat rel.0 row) (Some row)) s h c
   some_changes db (Query out rels conds ∷ rest) answers changed s (inr h) c =
       after_query (nat_lt MAX_REPLY_ROWS (rows_in answers + length (answer db out rels conds))) (effect_from cat db rest (answers ++ answer db out rels conds ∷ []) changed)

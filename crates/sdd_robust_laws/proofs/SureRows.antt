@@ -1,5 +1,5 @@
 -- A transaction that commits has changed the row of each of its sure accesses.
-use Rattle.sdd_robust_laws.proofs.All.{Access, All, All-contains, AllByRecursion, Assign, Catalogue, Change, Condition, Const, Contains, Contains-append_cases, Contains-filter, Contains-from_flat_map, Contains-nil, Database, Delete, Eq, FitsCondition, FitsStatement, FitsTxn, Ge, Gt, Int, Interval, IsDatabase, IsEntry, IsRelation, IsSoundCatalogue, IsWithin, Item, Le, List, Lt, Ne, None, Op, Option, Put, PutsHeld, Query, Ref, RelNo, Restriction, Row, Same, Some, Stmt, Txn, Update, Value, [], accesses, admits, all_columns, all_keys, and_from, and_parts, ap, arith, at_most, chosen, column, column_set, columns_read, common, cond, cons_option, effect, entry_at, entry_placed, eq-eqb, eqb-true, false, false≢true, fold, fragment_at, fragment_of, in_range, inl, inr, int_cmp_total, int_le, ints, is_eq, is_equality, is_in, is_key_equality, is_one_key, is_some, item_cmp, item_cmp_exact, item_cmp_total, item_of, key_column, key_held, key_in, key_is_int, key_is_there, keys_for, keys_of_part, kind_at, kind_of, larger, list_all, map, meets_all, not_most, number_in, over_keys, part_accesses, part_of, recursion_from_All, refl, rel_of, restrictions_of, row_at, smaller, statement_accesses, stays, subst, succeeds, sym, tied_itself, true, updates_one_row, value_cmp, whole_number, ℕ, ℤ, ◌&&◌, ◌+◌, ◌==◌, ◌∙◌, ◌∷◌, ◌≡◌, ◌≤ℤ◌}
+use Rattle.sdd_robust_laws.proofs.All.{Access, All, assigned_column, flat_map, columns_read, read_part, All-contains, AllByRecursion, Assign, Bool, Catalogue, Change, Condition, Const, Contains, Contains-append_cases, Contains-filter, Contains-from_flat_map, Contains-nil, Database, Delete, Eq, FitsCondition, FitsStatement, FitsTxn, Ge, Gt, Int, Interval, IsDatabase, IsEntry, IsRelation, IsSoundCatalogue, IsWithin, Item, Le, List, Lt, Ne, None, Op, Option, Put, PutsHeld, Query, Ref, RelNo, Restriction, Row, Same, Some, Stmt, Txn, Update, Value, accesses, admits, all_keys, and_from, and_parts, ap, arith, at_most, chosen, column, common, cond, cons_option, effect, entry_at, entry_placed, eq-eqb, eqb-true, false, false≢true, fold, fragment_at, fragment_of, in_range, inl, inr, int_cmp, int_cmp_total, int_le, ints, is_eq, is_equality, is_in, is_key_equality, is_one_key, is_some, item_cmp, item_cmp_exact, item_cmp_total, item_of, key_column, key_held, key_in, key_is_int, key_is_there, keys_for, keys_of_part, kind_at, kind_of, larger, list_all, meets_all, not_most, number_in, over_keys, part_accesses, part_of, recursion_from_All, refl, rel_of, restrictions_of, row_at, smaller, statement_accesses, stays, subst, succeeds, sym, tied_itself, true, updates_one_row, value_cmp, whole_number, ℕ, ℤ, [], ◌&&◌, ◌+◌, ◌==◌, ◌∙◌, ◌∷◌, ◌≡◌, ◌≤ℤ◌}
 use Rattle.sdd_robust_laws.proofs.Covered.{access_of, over_is}
 use Rattle.sdd_robust_laws.proofs.Sure.{Changes, some_changes}
 use Rattle.sdd_robust_laws.proofs.Sure.Changes.{puts, updates}
@@ -95,25 +95,29 @@ module _ (cat : Catalogue) (sound : IsSoundCatalogue cat) (work : List Txn) (fir
     one : x.greatest ≤ℤ x.least
     changes : Changes cat (key_of x) db s
 
-  -- parts of a query are never sure
-  part_unsure : (out : List Ref) (conds : List Condition) (part : ℕ) (rels : List RelNo) (x : Access) → Contains (part_accesses cat out conds part rels) x → x.sure ≡ false
-  part_unsure out conds part [] x h = absurd (Contains-nil x h)
-  part_unsure out conds part (rel ∷ rels) x h =
+  -- what is read is never sure
+  read_unsure : (conds : List Condition) (out : List Ref) (part : ℕ) (rel : RelNo) (x : Access) → Contains (read_part cat conds out part rel) x → x.sure ≡ false
+  read_unsure conds out part rel x h =
       let keys : Interval = keys_of_part cat rel part conds in
-      let read : List ℕ = columns_read (key_column cat rel.0) out conds part in
-      elim (Contains-append_cases (over_keys rel keys read [] false) (part_accesses cat out conds (part + 1) rels) x h) [
-        | inl k ↦ ap (λ (z : Access). z.sure) (over_is rel keys read [] false x k)
-        | inr k ↦ part_unsure out conds (part + 1) rels x k
+      let k = Contains-from_flat_map (λ column. over_keys rel keys column true false false) (columns_read cat conds out part rel) x h in
+      ap (λ (z : Access). z.sure) (over_is rel keys k.0 true false false x k.2)
+
+  part_unsure : (conds : List Condition) (out : List Ref) (part : ℕ) (rels : List RelNo) (x : Access) → Contains (part_accesses cat conds out part rels) x → x.sure ≡ false
+  part_unsure conds out part [] x h = absurd (Contains-nil x h)
+  part_unsure conds out part (rel ∷ rels) x h =
+      elim (Contains-append_cases (read_part cat conds out part rel) (part_accesses cat conds out (part + 1) rels) x h) [
+        | inl k ↦ read_unsure conds out part rel x k
+        | inr k ↦ part_unsure conds out (part + 1) rels x k
       ]
 
   row_of : (item : Item) (o : Option Row) → row_at db item ≡ o → is_some o ≡ true → (row : Row) × Contains db (item, row)
   row_of item None e h = absurd (false≢true h)
   row_of item (Some row) e h = (row, entry_at item_cmp item_cmp_total item_cmp_exact db item row e)
 
-  update_sure : (rel : RelNo) (sets : List Assign) (conds : List Condition) → FitsStatement cat (Update rel sets conds)
+  update_sure : (rel : RelNo) (sets : List Assign) (conds : List Condition) (n : ℕ) → FitsStatement cat (Update rel sets conds)
       → updates_one_row cat work first rel conds ≡ true
-      → IsSure (Update rel sets conds) (access_of rel (keys_of_part cat rel 1 conds) (columns_read (key_column cat rel.0) [] conds 1) (map column_set sets) (updates_one_row cat work first rel conds))
-  update_sure rel sets conds fits sure =
+      → IsSure (Update rel sets conds) (access_of rel (keys_of_part cat rel 1 conds) n false true (updates_one_row cat work first rel conds))
+  update_sure rel sets conds n fits sure =
       let keys : Interval = keys_of_part cat rel 1 conds in
       let k : ℤ = keys.0 in
       let parts = and_parts (is_one_key keys.0 keys.1) _ sure in
@@ -138,15 +142,25 @@ module _ (cat : Catalogue) (sound : IsSoundCatalogue cat) (work : List Txn) (fir
   sure_statement : (s : Stmt) → FitsStatement cat s → PutsHeld s → (x : Access) → Contains (statement_accesses cat work first s) x → x.sure ≡ true → IsSure s x
   sure_statement (Put rel row) fits held x h sure =
       let key : ℤ = key_in cat rel.0 row in
-      subst (IsSure (Put rel row)) (sym (over_is rel (key, key) [] (all_columns cat rel) true x h))
+      subst (IsSure (Put rel row)) (sym (over_is rel (key, key) 0 false true true x h))
       (record { relation = fits.0; held = key_held cat rel.0 row held; one = omega (arith, ints); changes = puts rel row refl })
-  sure_statement (Query out rels conds) fits held x h sure = absurd (false≢true (sym (part_unsure out conds 1 rels x h) ∙ sure))
+  sure_statement (Query out rels conds) fits held x h sure = absurd (false≢true (sym (part_unsure conds out 1 rels x h) ∙ sure))
   sure_statement (Update rel sets conds) fits held x h sure =
-      let e = over_is rel (keys_of_part cat rel 1 conds) (columns_read (key_column cat rel.0) [] conds 1) (map column_set sets) (updates_one_row cat work first rel conds) x h in
-      subst (IsSure (Update rel sets conds)) (sym e) (update_sure rel sets conds fits (sym (ap (λ (z : Access). z.sure) e) ∙ sure))
+      let keys : Interval = keys_of_part cat rel 1 conds in
+      let one : Bool = updates_one_row cat work first rel conds in
+      elim (Contains-append_cases (read_part cat conds [] 1 rel) (flat_map (λ a. over_keys rel keys (assigned_column a) false true one) sets) x h) [
+        | inl k ↦ absurd (false≢true (sym (read_unsure conds [] 1 rel x k) ∙ sure))
+        | inr k ↦
+            let a = Contains-from_flat_map (λ a. over_keys rel keys (assigned_column a) false true one) sets x k in
+            let e = over_is rel keys (assigned_column a.0) false true one x a.2 in
+            subst (IsSure (Update rel sets conds)) (sym e) (update_sure rel sets conds (assigned_column a.0) fits (sym (ap (λ (z : Access). z.sure) e) ∙ sure))
+      ]
   sure_statement (Delete rel conds) fits held x h sure =
-      let e = over_is rel (keys_of_part cat rel 1 conds) (columns_read (key_column cat rel.0) [] conds 1) (all_columns cat rel) false x h in
-      absurd (false≢true (sym (ap (λ (z : Access). z.sure) e) ∙ sure))
+      let keys : Interval = keys_of_part cat rel 1 conds in
+      elim (Contains-append_cases (read_part cat conds [] 1 rel) (over_keys rel keys 0 false true false) x h) [
+        | inl k ↦ absurd (false≢true (sym (read_unsure conds [] 1 rel x k) ∙ sure))
+        | inr k ↦ absurd (false≢true (sym (ap (λ (z : Access). z.sure) (over_is rel keys 0 false true false x k)) ∙ sure))
+      ]
 
   -- where the rows that stay are there, a transaction that succeeds has a change of the one row of each sure access
   pub sure_changed : (txn : Txn) → FitsTxn cat txn → All PutsHeld txn.statements → (x : Access) → Contains (accesses cat work first txn) x → x.sure ≡ true
@@ -159,3 +173,10 @@ module _ (cat : Catalogue) (sound : IsSoundCatalogue cat) (work : List Txn) (fir
       let c = some_changes cat (key_of x) db txn.statements [] [] s.0 (is_in txn.statements s.0 s.1) one.changes commits in
       let item = item_at cat c.change (fragment_of cat x.rel.0 x.least) x.least x.rel.0 c.key (entry_placed cat sound x.rel.0 x.least one.relation one.held) in
       (c.change, c.member, item, one.one)
+
+  -- and one of each row on which an update or a delete works
+  pub entry_changed : (txn : Txn) (s : Stmt) → Contains txn.statements s → (e : Item × Row) → IsEntry cat e → Changes cat (fragment_of cat e.0.0 e.0.1, e.0.1) db s
+      → succeeds (effect cat db txn).reply ≡ true → (c : Change) × Contains (effect cat db txn).changes c × (item_of cat c ≡ e.0)
+  entry_changed txn s h e entry changes commits =
+      let c = some_changes cat (fragment_of cat e.0.0 e.0.1, e.0.1) db txn.statements [] [] s (is_in txn.statements s h) changes commits in
+      (c.change, c.member, item_at cat c.change (fragment_of cat e.0.0 e.0.1) e.0.1 e.0.0 c.key (entry_placed cat sound e.0.0 e.0.1 entry.relation entry.key_held))

@@ -1,7 +1,7 @@
 -- Worked: write skew is a counterexample, and its transactions are dangerous; runs of one increment are robust.
-use Rattle.sdd_robust_laws.proofs.All.{Access, AreLinked, Contains, Contains-cases, Contains-here, Contains-later, Contains-nil, EachOnce, Int, IsBeside, IsCounterexample, IsDangerous, IsReplay, IsShownRobust, List, Reply, Rows, Txn, [], accesses, ap, are_apart, arith, cond, false, false≢true, inl, inr, map, pos, refl, serial, subst, sym, true, ℕ, ◌==◌, ◌∙◌, ◌∷◌, ◌≡◌, ◌≢◌, ◌⊎◌}
+use Rattle.sdd_robust_laws.proofs.All.{Access, AreLinked, Bool, Contains, Contains-cases, Contains-here, Contains-later, Contains-nil, EachOnce, Int, IsBeside, IsCounterexample, IsDangerous, IsReplay, IsShownRobust, List, Reply, Rows, Txn, Value, accesses, ap, are_apart, arith, cond, false, get_or, false≢true, inl, inr, map, pos, refl, serial, subst, sym, true, ℕ, ℤ, [], ◌<◌, ◌==◌, ◌∙◌, ◌∷◌, ◌≡◌, ◌≢◌, ◌⊎◌}
 use Rattle.sdd_robust_laws.specs.Shown.AreLinked.{further, itself}
-use Rattle.sdd_robust_laws.specs.AccessExamples.{by_key, of_skew, rows}
+use Rattle.sdd_robust_laws.specs.AccessExamples.{changes_of, of_skew, reads_of}
 use Rattle.sdd_robust_laws.specs.RunExamples.{adds, at_once, skew, skew_effects, skew_is_run, text, two_rows}
 use Rattle.sdd_order.specs.Examples.{crossing}
 
@@ -94,15 +94,17 @@ skew_is_dangerous =
       missed = of_skew 2;
       missing = of_skew 2;
       linked = itself (of_skew 2) (record { there = second_there; may_both = refl });
-      read = rows (pos 1) (pos 1) (1 ∷ 1 ∷ 2 ∷ []) [] false;
-      change = rows (pos 2) (pos 2) by_key (2 ∷ []) true;
-      of_read = Contains-here (rows (pos 1) (pos 1) (1 ∷ 1 ∷ 2 ∷ []) [] false) (rows (pos 2) (pos 2) by_key (2 ∷ []) true ∷ []);
-      of_change = Contains-later (rows (pos 1) (pos 1) (1 ∷ 1 ∷ 2 ∷ []) [] false) (rows (pos 2) (pos 2) by_key (2 ∷ []) true ∷ []) (rows (pos 2) (pos 2) by_key (2 ∷ []) true)
-          (Contains-here (rows (pos 2) (pos 2) by_key (2 ∷ []) true) []);
+      read = reads_of (pos 1) (pos 1) 2;
+      change = changes_of (pos 2) (pos 2) 2 true;
+      of_read = passing (reads_of (pos 1) (pos 1) 2) 1 (omega arith) refl;
+      of_change = passing (changes_of (pos 2) (pos 2) 2 true) 3 (omega arith) refl;
       reads = refl;
       changes = refl;
       differ = refl;
     }
+  where
+    passing : (x : Access) (n : ℕ) → n < 4 → get_or (of_skew 1) n x ≡ x → Contains (of_skew 1) x
+    passing x n l e = (n, l, e)
 
 -- Of one increment no two runs at once both commit.
 

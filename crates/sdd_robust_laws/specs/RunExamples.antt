@@ -1,6 +1,6 @@
 -- Worked runs over the relation item (id, val): a lost update, write skew, a phantom, and a reader that sees what no serial
 -- order shows.
-use Rattle.std.specs.Prelude.{List, [], if◌then◌else◌, map, pos, refl, true, ℕ, ◌++◌, ◌==◌, ◌∷◌, ◌≡◌}
+use Rattle.std.specs.Prelude.{ℕ, ◌==◌, ◌≡◌, pos, Bool, true, false, if◌then◌else◌, List, [], ◌∷◌, ◌++◌, map, refl}
 use Rattle.std.specs.List.{list_any}
 use Rattle.sdd_lang.specs.All.{Database, Eq, Ge, Int, Le, Op, Reply, Rows, effect, rel_no, serial, tm_no}
 use Rattle.sdd_lang.specs.declared.assign.Assign.TheVariants.{Add}

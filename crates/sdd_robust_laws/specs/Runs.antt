@@ -1,10 +1,10 @@
 -- Runs of a workload's transactions under snapshot isolation, where of two that run at once and change one item the one
 -- that would end second doesn't commit. Their numbers are those of the runs: `txns n` is the transaction that run n is of,
 -- and many runs may be of one transaction.
-use Rattle.std.specs.Prelude.{Bool, Contains, List, [], false, if◌then◌else◌, true, ℕ, ◌==◌, ◌∷◌, ◌≡◌}
+use Rattle.std.specs.Prelude.{ℕ, Bool, ◌==◌, ◌≡◌, true, false, if◌then◌else◌, List, [], ◌∷◌, Contains}
 use Rattle.std.specs.List.{list_all, list_any}
 use Rattle.std.specs.Ordering.{is_eq}
-use Rattle.sdd_lang.specs.All.{Catalogue, Database, Overflow, Reply, Rows, contains, item_cmp, item_of}
+use Rattle.sdd_lang.specs.All.{Catalogue, Database, Reply, Rows, Overflow, contains, item_cmp, item_of}
 use Rattle.sdd_lang.specs.base.declared.reply.Reply.TheVariants.{TooMany}
 use Rattle.sdd_lang.specs.declared.effect.Effect.{Effect}
 use Rattle.sdd_lang.specs.declared.transaction.Txn.{Txn}

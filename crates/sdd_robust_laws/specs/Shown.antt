@@ -1,5 +1,5 @@
 -- The test: transactions are shown robust where none of them may be the pivot of a run that is like no serial one.
-use Rattle.std.specs.Prelude.{Contains, List, false, map, true, ◌≡◌}
+use Rattle.std.specs.Prelude.{◌≡◌, true, false, List, Contains, map}
 use Rattle.sdd_lang.specs.All.{Catalogue, Database}
 use Rattle.sdd_lang.specs.declared.transaction.Txn.{Txn}
 use Rattle.sdd_robust_laws.specs.Accesses.{accesses, are_apart, are_of_one_row, changes_for, conflict, reads_from}
@@ -15,9 +15,9 @@ pub data AreLinked (all : List (List Access)) (pivot : List Access) : List Acces
   itself : (c : List Access) → IsBeside all pivot c → AreLinked all pivot c c
   further : (c d a : List Access) → IsBeside all pivot c → conflict c d ≡ true → AreLinked all pivot d a → AreLinked all pivot c a
 
--- The pivot may read a column of a row without the change of one transaction, whose run ends first of all, and may change a
--- column of a row of which another, which conflicts link with that one, reads what stood there before. That can't be where
--- both are one row: then two that run at once change it.
+-- The pivot may read a row without the change of one transaction, whose run ends first of all, and may change a row of which
+-- another, which conflicts link with that one, reads what stood there before. That can't be where both are one row: then
+-- two that run at once change it.
 pub record IsDangerous (all : List (List Access)) (pivot : List Access) : Type 0 where
   pub missed : List Access
   pub missing : List Access

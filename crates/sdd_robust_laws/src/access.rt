@@ -1,17 +1,18 @@
-use sdd_lang::{Listed, RelNo};
+use sdd_lang::RelNo;
 
-/// Rows that a transaction may read or change: those of one relation from one key to another.
-#[derive(Drop)]
+/// A column that a transaction may read or change, of the rows of one relation from one key to another.
+#[derive(Clone, Copy)]
 pub struct Access {
     pub rel: RelNo,
     /// The first and the last key, both within; the first isn't above the last.
     pub least: i64,
     pub greatest: i64,
-    /// The columns of such rows that may be read, counted from 1; the key is among them, with which it
-    /// is read whether a row is there. None where nothing is read.
-    pub reads: Listed<u32>,
-    /// The columns that may be changed: all, where rows may be put or deleted.
-    pub changes: Listed<u32>,
+    /// The column, counted from 1; 0 stands for all columns, and for whether there is a row.
+    pub column: u32,
+    /// Whether the column may be read.
+    pub reads: bool,
+    /// Whether the column may be changed, or, of all columns, rows may be put or deleted.
+    pub changes: bool,
     /// Whether it is one row, which each run of the transaction changes that ends.
     pub sure: bool,
 }

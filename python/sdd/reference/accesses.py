@@ -1,20 +1,23 @@
 """What a transaction may read and change: columns of the rows of relations from one key to another.
 
-Definition: docs/ISOLATION.md, "Is snapshot isolation enough for yours?"; crates/sdd_robust_laws/specs/Accesses.antt.
+Definition: docs/FORMATS.md, "What `sdd1_ask` prints"; crates/sdd_robust_laws/specs/Accesses.antt.
 """
 from typing import NamedTuple
 
-from sdd.model.statements import Compare, Delete, Put, Query, Same, Update, relations_of
+from sdd.model.statements import Compare, Delete, Put, Query, Update, relations_of
 from sdd.reference.plain import keys_allowed
+
+ALL_COLUMNS = 0
 
 
 class Access(NamedTuple):
     relation: str
     least: int
     greatest: int
-    reads: frozenset        # the places of columns in the rows with these keys; with the key's, that they are there
-    changes: frozenset
-    sure: bool              # it is one row, which each run of the transaction changes that ends
+    column: int         # from 1; ALL_COLUMNS for all of them, and for whether there is a row
+    reads: bool
+    changes: bool
+    sure: bool          # it is one row, which each run of the transaction changes that ends
 
 
 def keys_of_part(cat, statement, part, relation):
@@ -24,10 +27,11 @@ def keys_of_part(cat, statement, part, relation):
 
 
 def columns_read(cat, statement, part, relation):
-    """The key, and what of a part the conditions compare and a query lists."""
-    compared = [c for cond in statement.conds for c in ((cond.left, cond.right) if isinstance(cond, Same) else (cond.column,))]
-    listed = statement.columns if isinstance(statement, Query) else ()
-    return frozenset([cat.relation[relation].key_place, *(c.place for c in (*compared, *listed) if c.part == part)])
+    """The columns of a part that are named, in conditions and in what is listed, and the key: by it it is known which rows there are."""
+    named = list(statement.columns) if isinstance(statement, Query) else []
+    for cond in statement.conds:
+        named += [cond.column] if isinstance(cond, Compare) else [cond.left, cond.right]
+    return sorted({cat.relation[relation].key_place + 1} | {c.place + 1 for c in named if c.part == part})
 
 
 class Accesses:
@@ -44,25 +48,23 @@ class Accesses:
                      if access.least <= access.greatest)
 
     def of_statement(self, statement):
-        """What an update adds to needn't be read: of two that change one row at once one doesn't commit."""
         if isinstance(statement, Put):
             key = self.cat.relation[statement.relation].key_of(statement.row)
-            return [Access(statement.relation, key, key, frozenset(), self.all_columns(statement.relation), True)]
-        sure = isinstance(statement, Update) and self.updates_one_row(statement)
-        return [Access(relation, *keys_of_part(self.cat, statement, part, relation),
-                       columns_read(self.cat, statement, part, relation), self.columns_changed(statement), sure)
-                for part, relation in enumerate(relations_of(statement))]
+            return [Access(statement.relation, key, key, ALL_COLUMNS, False, True, True)]
+        reads = [Access(relation, *keys_of_part(self.cat, statement, part, relation), column, True, False, False)
+                 for part, relation in enumerate(relations_of(statement))
+                 for column in columns_read(self.cat, statement, part, relation)]
+        return reads if isinstance(statement, Query) else reads + self.changes_of(statement)
 
-    def columns_changed(self, statement):
-        """Each of them by a delete, since no row is left."""
-        if isinstance(statement, Update):
-            return frozenset(assign.place for assign in statement.assigns)
-        return self.all_columns(statement.relation) if isinstance(statement, Delete) else frozenset()
+    def changes_of(self, statement):
+        """What an update or a delete may change."""
+        keys = keys_of_part(self.cat, statement, 0, statement.relation)
+        if isinstance(statement, Delete):
+            return [Access(statement.relation, *keys, ALL_COLUMNS, False, True, False)]
+        sure = self.updates_one_row(statement)
+        return [Access(statement.relation, *keys, assign.place + 1, False, True, sure) for assign in statement.assigns]
 
-    def all_columns(self, relation):
-        return frozenset(range(len(self.cat.relation[relation].columns)))
-
-    def updates_one_row(self, update):
+    def updates_one_row(self, update: Update):
         """Whether each condition is `key = N`, and that row is there at first and nobody may delete it."""
         key_place = self.cat.relation[update.relation].key_place
         least, greatest = keys_of_part(self.cat, update, 0, update.relation)
@@ -74,33 +76,35 @@ class Accesses:
             name == relation and least <= key <= greatest for name, least, greatest in self.deleted)
 
 
-def meet(x, y):
+def rows_meet(x, y):
     """Whether there may be a row that both accesses are of."""
     return x.relation == y.relation and x.least <= y.greatest and y.least <= x.greatest
 
 
+def meet(x, y):
+    """Whether both have a column of a row."""
+    return rows_meet(x, y) and (ALL_COLUMNS in (x.column, y.column) or x.column == y.column)
+
+
 def are_of_one_row(x, y):
-    return meet(x, y) and x.least == x.greatest and y.least == y.greatest
-
-
-def may_miss(x, y):
-    """Whether the first may read a column of a row that the second may change."""
-    return meet(x, y) and not x.reads.isdisjoint(y.changes)
+    return rows_meet(x, y) and x.least == x.greatest and y.least == y.greatest
 
 
 # An access of one transaction, and the accesses of another.
 
 def reads_from(x, others):
-    return any(may_miss(x, y) for y in others)
+    """Whether the access may read what the transaction may change."""
+    return x.reads and any(y.changes and meet(x, y) for y in others)
 
 
 def changes_for(y, others):
-    return any(may_miss(x, y) for x in others)
+    """Whether the access may change what the transaction may read."""
+    return y.changes and any(x.reads and meet(x, y) for x in others)
 
 
 def changes_with(x, others):
-    """Whether it may change a row that the other transaction may change, in whatever columns."""
-    return bool(x.changes) and any(y.changes and meet(x, y) for y in others)
+    """Whether the access may change a row that the transaction may change, be it in other columns."""
+    return x.changes and any(y.changes and rows_meet(x, y) for y in others)
 
 
 def conflict(xs, ys):
@@ -109,4 +113,4 @@ def conflict(xs, ys):
 
 def are_apart(xs, ys):
     """Whether both change one row for sure: of two runs of them that are at once one doesn't commit."""
-    return any(x.sure and y.sure and meet(x, y) for x in xs for y in ys)
+    return any(x.sure and y.sure and rows_meet(x, y) for x in xs for y in ys)

@@ -2,7 +2,7 @@
 
 They are shown robust where none of them can be a pivot: one that misses the change of a first transaction, while a last
 one, which conflicts link with the first, misses its own. Else short runs are carried out, and that one is told whose
-replies and rows no order gives. Definition: docs/ISOLATION.md, "Is snapshot isolation enough for yours?";
+replies and rows no order gives. Definition: docs/FORMATS.md, "What `sdd1_ask` prints";
 crates/sdd_robust_laws/specs/Shown.antt, Runs.antt.
 """
 from itertools import islice, permutations
@@ -40,34 +40,30 @@ class Kinds:
         """Those that may run while the pivot does, and both commit."""
         return [i for i, other in enumerate(self.all) if not are_apart(self.all[pivot], other)]
 
-    def missed(self, read, beside):
-        """Those whose change the pivot may miss by this access."""
-        return [i for i in beside if reads_from(read, self.all[i])]
+    def may_miss(self, i, pivot, read):
+        """Whether it may read what the pivot changes, where that isn't one row with what the pivot reads by this access."""
+        return any(changes_for(y, self.all[i]) and not are_of_one_row(read, y) for y in self.all[pivot])
 
-    def missing(self, pivot, read, beside):
-        """Those that may miss a change of the pivot, where it isn't one row with what the pivot reads by this access."""
-        changes = [y for y in self.all[pivot] if y.changes and not are_of_one_row(read, y)]
-        return [i for i in beside if any(changes_for(y, self.all[i]) for y in changes)]
-
-    def linked(self, starts, beside):
-        """Those of them to which conflicts lead from one of the starts."""
-        reached, waiting, left = set(starts), list(starts), [i for i in beside if i not in starts]
-        while waiting:
-            i = waiting.pop()
-            found = [j for j in left if self.conflict(i, j)]
-            reached.update(found)
-            waiting += found
-            left = [j for j in left if j not in reached]
+    def linked(self, start, beside):
+        """Those beside the pivot to which conflicts lead from the start, in the order in which they are found."""
+        reached, left = [start], beside
+        for i in reached:
+            found = {j for j in left if self.conflict(i, j)}
+            reached += [j for j in left if j in found]
+            left = [j for j in left if j not in found]
         return reached
 
     def pivot_of(self, pivot):
         """The first two by which the transaction is a pivot, or None."""
         beside = self.beside(pivot)
         for read in self.all[pivot]:
-            missed, missing = self.missed(read, beside), self.missing(pivot, read, beside)
-            if missed and missing and self.linked(missed, beside).intersection(missing):
-                return next(Pivot(pivot, i, j) for i in missed for reached in [self.linked([i], beside)]
-                            for j in missing if j in reached)
+            if not any(self.may_miss(i, pivot, read) for i in beside):
+                continue
+            for start in beside:
+                if reads_from(read, self.all[start]):
+                    end = next((i for i in self.linked(start, beside) if self.may_miss(i, pivot, read)), None)
+                    if end is not None:
+                        return Pivot(pivot, start, end)
         return None
 
     def first_pivot(self):
@@ -79,7 +75,7 @@ class Kinds:
             beside = self.beside(pivot)
             for first in beside:
                 last = {j for x in self.all[pivot] if reads_from(x, self.all[first])
-                        for j in self.missing(pivot, x, beside)}
+                        for j in beside if self.may_miss(j, pivot, x)}
                 if last:
                     yield from ((pivot, *path) for path in self.paths((first,), beside, length) if path[-1] in last)
 

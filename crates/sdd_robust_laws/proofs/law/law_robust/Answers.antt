@@ -1,4 +1,3 @@
-use Rattle.sdd_robust_laws.proofs.Worked.{increment_is_shown, skew_is_counterexample, skew_is_dangerous}
 use Rattle.sdd_robust_laws.proofs.Theorems.{shown_is_robust}
 use Rattle.sdd_robust_laws.proofs.law.law_robust.Goals as goal
 

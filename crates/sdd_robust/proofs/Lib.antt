@@ -1,0 +1,3 @@
+pub mod Flooding
+pub mod Steps
+pub mod Pivots

@@ -1,0 +1,27 @@
+use Rattle.std.proofs.Common.{List, ap, arith, length}
+use Rattle.std.proofs.lemmas.List.Elements.{Contains-get_or}
+use Rattle.sdd_robust_laws.specs.declared.access.Access.{Access}
+use Rattle.sdd_robust.specs.Members.{kinds, lent}
+use Rattle.sdd_robust.specs.Pivots.{Closes}
+use Rattle.sdd_robust.proofs.Pivots.{is_pivot, no_pivot_of}
+use Rattle.sdd_robust.proofs.Steps.{each_at}
+use Rattle.sdd_robust.proofs.pivot.pivot_of.Goals as goal
+
+pub returns-in-Some-clause-found : goal.returns-in-Some-clause-found
+returns-in-Some-clause-found c =
+    let h = rw c.as_slice-read-items.ensures at (rw c.as_slice-in-reads.ensures.value at (rw c.in-Some.is at c.in_ok-found.ensures.found)) in
+    is_pivot c.args.all.now (lent c.in_ok-beside.beside.items) c.args.pivot.now c.in-Some.found.pivot.now c.in-Some.found.missed.now
+    c.in-Some.found.missing.now _ (rw c.as_slice.ensures at c.in_ok-beside.ensures) c.requires
+    (Contains-get_or c.args.pivot.now.accesses c.reads.read-index _ (omega (arith, ap length c.as_slice-read-items.ensures))) h.0 h.1 h.2 h.3
+
+pub reads-preserved : goal.reads-preserved
+reads-preserved c =
+    each_at (λ (read : Access). (d a : List Access) → Closes (kinds (lent c.in_ok-beside.beside.items)) c.args.pivot.now.accesses read d a → ⊥)
+    c.args.pivot.now.accesses c.reads.read-index _ (omega (arith, ap length c.as_slice-read-items.ensures))
+    (rw c.as_slice-read-items.ensures at (rw c.as_slice-in-reads.ensures.value at (rw c.in-None.is at c.in_ok-found.ensures.none)))
+    c.reads.invariant
+
+pub returns-clause-none : goal.returns-clause-none
+returns-clause-none c =
+    no_pivot_of c.args.all.now (lent c.in_ok-beside.beside.items) c.args.pivot.now c.reads.read-index
+    (rw c.as_slice.ensures at c.in_ok-beside.ensures) (omega (arith, ap length c.as_slice-read-items.ensures)) c.reads.invariant

@@ -1,0 +1,27 @@
+//! Which transactions may run while a pivot does.
+ghost use Rattle.std.specs.Prelude.{◌≡◌, IfOk, filter, not};
+ghost use Rattle.sdd_robust_laws.specs.Accesses.{are_apart};
+ghost use Rattle.sdd_robust.specs.Members.{lent};
+
+use crate::meeting::are_apart;
+use crate::member::Member;
+use sdd_lang::NoMemory;
+use sdd_robust_laws::Access;
+use std::alloc::Global;
+
+/// Those that may run while the pivot does, and both commit.
+pub(crate) fn beside<'a>(
+    alloc: Global,
+    all: &'a [Member],
+    pivot: &[Access],
+) -> Result<Vec<&'a Member>, NoMemory>
+    ensures { IfOk result (λ found. lent found.items ≡ filter (λ m. not (are_apart pivot.now m.accesses)) all.now) }
+{
+    let mut found = Vec::new(alloc);
+    'members: for other in all {
+        if !are_apart(pivot, other.accesses.as_slice()) {
+            found.push(other)?;
+        }
+    }
+    Ok(found)
+}
