@@ -14,6 +14,16 @@ waits-requires c =
 pub closed-requires : goal.closed-requires
 closed-requires c = ap length c.deref-2.ensures.value ∙ (tells_flags (moves (flag_at c.deref.result.now)) c.in_ok-moves.moves.items c.in_ok-moves.ensures).cells
 
+pub returns-in_err-passing : goal.returns-in_err-passing
+returns-in_err-passing c =
+    let p = err_from_is_err_and c.from_residual-in_err-passing.result c.from_residual-in_err-passing.ensures.1 in
+    rw p.1 tt
+
+pub returns-in_err-awaited : goal.returns-in_err-awaited
+returns-in_err-awaited c =
+    let p = err_from_is_err_and c.from_residual-in_err-awaited.result c.from_residual-in_err-awaited.ensures.1 in
+    rw p.1 tt
+
 pub returns-in_err-begun : goal.returns-in_err-begun
 returns-in_err-begun c =
     let p = err_from_is_err_and c.from_residual-in_err-begun.result c.from_residual-in_err-begun.ensures.1 in
