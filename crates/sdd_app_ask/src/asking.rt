@@ -8,16 +8,14 @@ ghost use Rattle.sdd_shell.specs.Endings.{FilesRead, ToItsEnd, ToItsLimit};
 ghost use Rattle.sdd_shell.specs.NamedFiles.{OverCatalogue};
 ghost use Rattle.sdd_shell.specs.States.{shelf_by, sink_by};
 ghost use Rattle.sdd_shell.specs.Verdict.{Answers, AtFault, ComesOfFiles};
-ghost use Rattle.sdd_app_ask.specs.Asking.{AnswersQuestion, ComesToAnswer, IsNoForm, ask_call, words_of};
-ghost use Rattle.sdd_app_ask.specs.Asked.{form_of};
+ghost use Rattle.sdd_app_ask.specs.Asking.{AnswersQuestion, ComesToAnswer, IsNoForm, ask_call, word_of};
 
-use crate::certifying::certify_answer;
 use sdd_ask::{needs_text, robust_text};
 use sdd_lang::{Catalogue, NoMemory, Pages, Shelf, Sink};
 use sdd_shell::{Status, accepted_catalogue, end_call};
 use std::alloc::Global;
 
-const USAGE: &[u8] = b"usage: sdd1_ask robust CAT | needs CAT | certify CAT WORK REPORT\n";
+const USAGE: &[u8] = b"usage: sdd1_ask robust CAT | needs CAT\n";
 
 /// What may be asked of a catalogue.
 #[derive(Clone, Copy)]
@@ -28,28 +26,29 @@ pub enum Question {
     Needs,
 }
 
-/// What the words ask for. The texts are names of files.
+/// A question, and the name of the catalogue's file.
 #[derive(Clone, Copy)]
-pub enum Asked<'a> {
-    /// The answer to a question, over a catalogue.
-    Ask(Question, &'a str),
-    /// The certificate of a report, over a catalogue and a workload.
-    Certify(&'a str, &'a str, &'a str),
+struct Asked<'a> {
+    question: Question,
+    catalogue: &'a str,
 }
 
 /// What the words ask.
 fn asked_in<'a>(words: &'a [String]) -> Option<Asked<'a>>
-    ensures found { IfSome result (λ asked. map string_bytes words.now ≡ words_of (form_of asked)) }
+    ensures found { IfSome result (λ asked.
+        map string_bytes words.now ≡ word_of asked.question ∷ asked.catalogue.now ∷ []) }
     ensures none { IfNone result (IsNoForm (map string_bytes words.now)) }
 {
     match words {
         [word, catalogue] => match word.as_str() {
-            "robust" => Some(Asked::Ask(Question::Robust, catalogue.as_str())),
-            "needs" => Some(Asked::Ask(Question::Needs, catalogue.as_str())),
-            _ => None,
-        },
-        [word, catalogue, work, report] => match word.as_str() {
-            "certify" => Some(Asked::Certify(catalogue.as_str(), work.as_str(), report.as_str())),
+            "robust" => Some(Asked {
+                question: Question::Robust,
+                catalogue: catalogue.as_str(),
+            }),
+            "needs" => Some(Asked {
+                question: Question::Needs,
+                catalogue: catalogue.as_str(),
+            }),
             _ => None,
         },
         _ => None,
@@ -102,22 +101,16 @@ fn answer<S: Shelf>(alloc: Global, words: &[String], shelf: &mut S) -> Result<Pa
 {
     match asked_in(words) {
         None => Err(Status::Usage),
-        Some(Asked::Ask(question, catalogue)) => {
-            question_answer(alloc, shelf, catalogue, question)
-        }
-        Some(Asked::Certify(catalogue, work, report)) => {
-            certify_answer(alloc, shelf, catalogue, work, report)
-        }
+        Some(asked) => question_answer(alloc, shelf, asked.catalogue, asked.question),
     }
 }
 
 /// Does all that the program for questions does: takes the words after the program's name, reads the
-/// files that they name from the shelf, writes the whole answer to `out` or else the status's line to
+/// file that they name from the shelf, writes the whole answer to `out` or else the status's line to
 /// `err`.
 ///
-/// The words are judged first, then the catalogue is read and judged, then the workload, then a report.
-/// Nothing is written before the answer is whole. A question costs what the protocol table of the
-/// catalogue does, a certificate what `certify` does.
+/// The words are judged first, then the catalogue is read and judged. Nothing is written before the
+/// answer is whole. Costs what the protocol table of the catalogue does.
 pub fn run_ask<S: Shelf, O: Sink, E: Sink>(
     alloc: Global,
     words: &[String],

@@ -134,6 +134,7 @@ module _ (cat : Catalogue) (work : Workload) (text : List ℕ) (named : AreNamed
       }
 
   pub run_complete : length text ≤ MAX_REPORT_BYTES → complete text ≡ Yes
+  unfolding has_order
   run_complete small =
       complete_again text
       (record {
