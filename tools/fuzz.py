@@ -1,17 +1,16 @@
 #!/usr/bin/env python3
 """Compares `sdd1` with the reference on random input, and cuts every difference down to a small one.
 
-    tools/fuzz.py FROM TO [KIND ..] --program COMMAND [--other COMMAND] [--inside COMMAND] [--ask COMMAND] [--into FOLDER]
+    tools/fuzz.py FROM TO [KIND ..] --program COMMAND [--other COMMAND] [--inside COMMAND] [--into FOLDER]
 
 For each seed from FROM up to TO, without it, and each kind (all where none is named) a call is drawn: words and files.
 The reference of this repository (`sdd reference`) answers it in this process, the program by COMMAND, and so may a third one.
-Kinds inside and certify are for programs of their own, the first of which takes a catalogue and a workload; they are left
-out without --inside, and without --ask.
+Kind inside is for a program of its own, which takes a catalogue and a workload; it is left out without --inside.
 An answer is a status, what is written to standard error, and what standard output is. Of a call with a difference lines are
 taken away as long as there is one; what is left is printed, and with --into its files are kept in FOLDER. It ends with 1
 where there was a difference.
 
-Kinds: catalogue, faulty-catalogue, toml, plain, faulty-workload, run, lists, control, verify, make, words, inside, certify.
+Kinds: catalogue, faulty-catalogue, toml, plain, faulty-workload, run, lists, control, verify, make, words, inside.
 """
 import argparse
 import collections
@@ -27,10 +26,9 @@ def difference(call, programs):
     """The program that answers otherwise, and both answers; or None."""
     wanted = reference_answer(*call)
     for program in programs:
-        kind = call.words[0] if call.words[:1] in (["inside"], ["certify"]) else None
-        if program.own_kind != kind:
+        if (call.words[:1] == ["inside"]) != program.is_inside:
             continue
-        got = program.answer(call.words[1:] if kind == "inside" else call.words, call.files)
+        got = program.answer(call.words[1:] if program.is_inside else call.words, call.files)
         if got != wanted:
             return program, wanted, got
     return None
@@ -89,7 +87,6 @@ def main():
     asked.add_argument("--program", metavar="COMMAND", help="sdd1, as built and proved: crates/sdd1/out/sdd1")
     asked.add_argument("--other", metavar="COMMAND", help="a third program that is compared too")
     asked.add_argument("--inside", metavar="COMMAND", help="a program that prints the states of a run")
-    asked.add_argument("--ask", metavar="COMMAND", help="a program that answers questions, `sdd1_ask`")
     asked.add_argument("--into", metavar="FOLDER", help="keeps the files of differences there")
     asked = asked.parse_args()
     try:
@@ -106,23 +103,19 @@ def programs_asked(asked):
     unknown = [k for k in asked.kinds if k not in random_calls.KINDS]
     if unknown:
         raise NoProgram("%s is no kind; kinds are %s" % (unknown[0], ", ".join(random_calls.KINDS)))
-    given = (("the program", asked.program, None), ("the other", asked.other, None), ("the program of states", asked.inside, "inside"),
-             ("the program of questions", asked.ask, "certify"))
-    programs = []
-    for name, command, own_kind in given:
-        if command is not None:
-            programs.append(Program(name, command))
-            programs[-1].own_kind = own_kind
+    given = (("the program", asked.program), ("the other", asked.other), ("the program of states", asked.inside))
+    programs = [Program(name, command) for name, command in given if command is not None]
     if not programs:
-        raise NoProgram("give --program COMMAND, --other COMMAND, --inside COMMAND, or --ask COMMAND")
+        raise NoProgram("give --program COMMAND, --other COMMAND, or --inside COMMAND")
+    for program in programs:
+        program.is_inside = program.name == given[2][0]
     return programs
 
 
 def compare(asked, programs):
     """How many calls of each kind there were, and how many differed."""
     counts, differ = collections.Counter(), 0
-    own = {"inside": asked.inside, "certify": asked.ask}
-    kinds = asked.kinds or [k for k in random_calls.KINDS if own.get(k, asked.program or asked.other)]
+    kinds = asked.kinds or [k for k in random_calls.KINDS if (asked.inside if k == "inside" else asked.program or asked.other)]
     for seed in range(asked.first, asked.end):
         for kind in kinds:
             call = random_calls.KINDS[kind](random.Random("%s %d" % (kind, seed)))

@@ -187,8 +187,7 @@ def control_call(rng):
     return Call(["control", "file"], {"file": changed(rng, text) if rng.random() < 0.3 else text})
 
 
-def report_call(word, rng):
-    """A call that judges a report, right or changed."""
+def verify_call(rng):
     cat, work = inputs.scheduled(rng, rng.random() < 0.4)
     files = files_of(cat, work)
     _, _, text = answer([rng.choice(["run", "plain"]), "cat", "work"], files.__getitem__)
@@ -203,15 +202,7 @@ def report_call(word, rng):
         report = b"\n".join(lines)
     if rng.random() < 0.5:
         report = changed(rng, report)
-    return Call([word, "cat", "work", "report"], {**files, "report": report})
-
-
-def verify_call(rng):
-    return report_call("verify", rng)
-
-
-def certify_call(rng):
-    return report_call("certify", rng)
+    return Call(["verify", "cat", "work", "report"], {**files, "report": report})
 
 
 def make_call(rng):
@@ -231,4 +222,4 @@ def words_call(rng):
 
 KINDS = {"catalogue": catalogue_call, "faulty-catalogue": faulty_catalogue_call, "toml": toml_call, "plain": plain_call,
          "faulty-workload": faulty_workload_call, "run": run_call, "lists": lists_call, "control": control_call,
-         "verify": verify_call, "make": make_call, "words": words_call, "inside": inside_call, "certify": certify_call}
+         "verify": verify_call, "make": make_call, "words": words_call, "inside": inside_call}
