@@ -78,7 +78,7 @@ impl Case {
     /// Takes a line that sets one thing.
     pub fn set(&mut self, alloc: Global, key: &str, value: &str) -> Result<()> {
         match key {
-            "program" => self.program = program(value)?,
+            "program" => self.program = program_named(value)?,
             "words" => self.words = words(alloc, value)?,
             "each" => self.each = self.each_of(alloc, value)?,
             _ => self.set_number(key, value)?,
@@ -126,7 +126,7 @@ impl Case {
     }
 }
 
-fn program(name: &str) -> Result<Program> {
+fn program_named(name: &str) -> Result<Program> {
     match name {
         "sdd1" => Ok(Program::Sdd1),
         "sdd1_inside" => Ok(Program::Inside),
