@@ -14,7 +14,8 @@ cell (Some row) k = Some (column row k)
 -- the databases have the same columns in the reading accesses
 abbrev pub AgreeOn : List Access → Database → Database → Type 0
 AgreeOn xs a b =
-    (x : Access) → Contains xs x → x.reads ≡ true → (item : Item) → covers x item ≡ true → cell (row_at a item) x.column ≡ cell (row_at b item) x.column
+    (x : Access) → Contains xs x → x.reads ≡ true → (item : Item) → covers x item ≡ true
+    → cell (row_at a item) x.column ≡ cell (row_at b item) x.column
 
 in_ascending : (ns : List ℕ) (k : ℕ) → Contains ns k → Contains (ascending ns) k
 in_ascending ns k h =
@@ -27,7 +28,8 @@ module _ (cat : Catalogue) (sound : IsSoundCatalogue cat) where
       (k : ℕ) → Contains ks k → (item : Item) → item.0 ≡ rel.0 → IsWithin item.1 (keys_of_part cat rel part conds)
       → cell (row_at a item) k ≡ cell (row_at b item) k
 
-  turned : (rel : RelNo) (part : ℕ) (conds : List Condition) (ks : List ℕ) (a b : Database) → SameColumns rel part conds ks a b → SameColumns rel part conds ks b a
+  turned : (rel : RelNo) (part : ℕ) (conds : List Condition) (ks : List ℕ) (a b : Database)
+      → SameColumns rel part conds ks a b → SameColumns rel part conds ks b a
   turned rel part conds ks a b same k h item e w = sym (same k h item e w)
 
   from_accesses : (conds : List Condition) (out : List Ref) (part : ℕ) (rel : RelNo) (a b : Database) → AgreeOn (read_part cat conds out part rel) a b
@@ -87,7 +89,9 @@ module _ (cat : Catalogue) (sound : IsSoundCatalogue cat) where
           let k = Contains-from_filter picks a e h in
           let p = and_parts (e.0.0 == rel.0) (test e.1) k.1 in
           let other = partner a b da same e k.0 (eqb-true e.0.0 rel.0 p.0) (tells e.1 p.1) in
-          (other.row, Contains-filter picks b (e.0, other.row) other.member (and_from (e.0.0 == rel.0) (test other.row) p.0 (sym (decides e.1 other.row other.alike) ∙ p.1)), other.alike)
+          let passes = sym (decides e.1 other.row other.alike) ∙ p.1 in
+          let is_picked = and_from (e.0.0 == rel.0) (test other.row) p.0 passes in
+          (other.row, Contains-filter picks b (e.0, other.row) other.member is_picked, other.alike)
 
       keys_stay : (es : Database) → keys_of (map with_trim es) ≡ keys_of es
       keys_stay [] = refl
@@ -104,7 +108,8 @@ module _ (cat : Catalogue) (sound : IsSoundCatalogue cat) where
           let is : with_trim ((e.0).0, other.0) ≡ x = ap (λ (r : List Value). ((e.0).0, r)) (sym other.2) ∙ sym e.2 in
           subst (Contains (map with_trim (filter picks b))) is (Contains-map with_trim (filter picks b) ((e.0).0, other.0) other.1)
 
-      trims_same : (a b : Database) → IsDatabase cat a → IsDatabase cat b → SameColumns rel part conds ks a b → map with_trim (filter picks a) ≡ map with_trim (filter picks b)
+      trims_same : (a b : Database) → IsDatabase cat a → IsDatabase cat b → SameColumns rel part conds ks a b
+          → map with_trim (filter picks a) ≡ map with_trim (filter picks b)
       trims_same a b da db same =
           same_members item_cmp item_cmp_total item_cmp_exact (map with_trim (filter picks a)) (map with_trim (filter picks b)) (sorted a da) (sorted b db)
           (trims_there a b da same) (trims_there b a db (turned rel part conds ks a b same))
@@ -140,7 +145,8 @@ module _ (cat : Catalogue) (sound : IsSoundCatalogue cat) where
   chosen_same rel conds there fits a b da db agree whole =
       let ks : List ℕ = columns_read cat conds [] 1 rel in
       let all : List ℕ = key_column cat rel.0 ∷ named_columns 1 conds [] in
-      same_picked (rel ∷ []) 1 conds rel refl there fits ks (in_ascending all (key_column cat rel.0) (Contains-here (key_column cat rel.0) (named_columns 1 conds [])))
+      let key_first = Contains-here (key_column cat rel.0) (named_columns 1 conds []) in
+      same_picked (rel ∷ []) 1 conds rel refl there fits ks (in_ascending all (key_column cat rel.0) key_first)
       (λ row. meets_all conds (row ∷ [])) (λ row met. parts_meet conds (row ∷ []) 1 met)
       (λ r s e. all_same (λ part. columns_read cat conds [] part rel) cat (rel ∷ []) (r ∷ []) (s ∷ []) conds (e, tt) fits
       (λ part k h. in_ascending (key_column cat rel.0 ∷ named_columns part conds []) k
@@ -154,11 +160,14 @@ module _ (cat : Catalogue) (sound : IsSoundCatalogue cat) where
   restricted false x rest r s first same = same
 
   -- the rows of a part that meet its restrictions
-  restrictions_decide : (conds : List Condition) (out : List Ref) (rels : List RelNo) (rel : RelNo) (part : ℕ) → AllByRecursion (FitsCondition cat rels) conds → (r s : Row)
-      → trim (columns_read cat conds out part rel) r ≡ trim (columns_read cat conds out part rel) s → meets_restrictions conds part r ≡ meets_restrictions conds part s
+  restrictions_decide : (conds : List Condition) (out : List Ref) (rels : List RelNo) (rel : RelNo) (part : ℕ)
+      → AllByRecursion (FitsCondition cat rels) conds → (r s : Row)
+      → trim (columns_read cat conds out part rel) r ≡ trim (columns_read cat conds out part rel) s
+      → meets_restrictions conds part r ≡ meets_restrictions conds part s
   restrictions_decide conds out rels rel part fits r s e =
       by conds (λ k h. in_ascending (key_column cat rel.0 ∷ named_columns part conds out) k
-      (Contains-later (key_column cat rel.0) (named_columns part conds out) k (Contains-append_left (flat_map (condition_columns part) conds) (flat_map (column_of_part part) out) k h)))
+      (Contains-later (key_column cat rel.0) (named_columns part conds out) k
+      (Contains-append_left (flat_map (condition_columns part) conds) (flat_map (column_of_part part) out) k h)))
     where
       by : (some : List Condition) → ((k : ℕ) → Contains (flat_map (condition_columns part) some) k → Contains (columns_read cat conds out part rel) k)
           → meets_restrictions some part r ≡ meets_restrictions some part s
@@ -188,10 +197,13 @@ module _ (cat : Catalogue) (sound : IsSoundCatalogue cat) where
       (restrictions_decide conds out all rel part fits) a b da db (from_accesses conds out part rel a b agree) in
       let fewer : (r s : Row) → trim ks r ≡ trim ks s → trim named r ≡ trim named s =
       λ r s e. trimmed named r s (λ k h. from_trim ks r s k e (in_ascending (key ∷ named) k (Contains-later key named k h))) in
-      let of_a : map (trim ks) (filter test (rows_of a rel.0)) ≡ map (λ (x : Item × List Value). x.1) (map (λ (e : Entry). (e.0, trim ks e.1)) (filter (λ (e : Entry). (e.0.0 == rel.0) && test e.1) a)) =
-      ap (map (trim ks)) (rows_picked test rel.0 a) ∙ twice ks (filter (λ (e : Entry). (e.0.0 == rel.0) && test e.1) a) in
-      let of_b : map (trim ks) (filter test (rows_of b rel.0)) ≡ map (λ (x : Item × List Value). x.1) (map (λ (e : Entry). (e.0, trim ks e.1)) (filter (λ (e : Entry). (e.0.0 == rel.0) && test e.1) b)) =
-      ap (map (trim ks)) (rows_picked test rel.0 b) ∙ twice ks (filter (λ (e : Entry). (e.0.0 == rel.0) && test e.1) b) in
+      let picks : Entry → Bool = λ e. (e.0.0 == rel.0) && test e.1 in
+      let trims : Database → List (List Value) =
+      λ db. map (λ (x : Item × List Value). x.1) (map (λ (e : Entry). (e.0, trim ks e.1)) (filter picks db)) in
+      let of_a : map (trim ks) (filter test (rows_of a rel.0)) ≡ trims a =
+      ap (map (trim ks)) (rows_picked test rel.0 a) ∙ twice ks (filter picks a) in
+      let of_b : map (trim ks) (filter test (rows_of b rel.0)) ≡ trims b =
+      ap (map (trim ks)) (rows_picked test rel.0 b) ∙ twice ks (filter picks b) in
       weaker_pairs (λ r s. trim ks r ≡ trim ks s) (λ r s. trim named r ≡ trim named s) fewer _ _
       (pairs_of (trim ks) (filter test (rows_of a rel.0)) (filter test (rows_of b rel.0)) (of_a ∙ ap (map (λ (x : Item × List Value). x.1)) same ∙ sym of_b))
 
@@ -209,22 +221,33 @@ module _ (cat : Catalogue) (sound : IsSoundCatalogue cat) where
       let of : rel_of all part ≡ rel.0 = subst (λ n. rel_of all n ≡ rel.0) z (named 0 rel (omega arith)) in (
         part_paired conds out all fits a b da db part rel of there.0 (λ x h. agree x (Contains-append_left here later x h)),
         lists_alike conds out all fits a b da db (part + 1) rels
-            (λ n d within. let e : part + suc n ≡ part + 1 + n = omega arith in subst (λ k. rel_of all k ≡ (get_or rels n d).0) e (named (suc n) d (omega arith))) there.1
+            (λ n d within.
+            let e : part + suc n ≡ part + 1 + n = omega arith in
+            subst (λ k. rel_of all k ≡ (get_or rels n d).0) e (named (suc n) d (omega arith)))
+            there.1
             (λ x h. agree x (Contains-append_right here later x h)),
       )
 
   answer_same : (out : List Ref) (rels : List RelNo) (conds : List Condition)
-      → AllByRecursion (FitsCondition cat rels) conds → AllByRecursion (FitsRef cat rels) out → AllByRecursion (λ (rel : RelNo). IsRelation cat rel.0) rels
-      → (a b : Database) → IsDatabase cat a → IsDatabase cat b → AgreeOn (part_accesses cat conds out 1 rels) a b → answer a out rels conds ≡ answer b out rels conds
+      → AllByRecursion (FitsCondition cat rels) conds → AllByRecursion (FitsRef cat rels) out
+      → AllByRecursion (λ (rel : RelNo). IsRelation cat rel.0) rels
+      → (a b : Database) → IsDatabase cat a → IsDatabase cat b → AgreeOn (part_accesses cat conds out 1 rels) a b
+      → answer a out rels conds ≡ answer b out rels conds
   answer_same out rels conds fits listed there a b da db agree =
       let ks : ℕ → List ℕ = λ p. named_columns p conds out in
       let alike = lists_alike conds out rels fits a b da db 1 rels (grind (arith, get_or_default)) there agree in
       let tuples = product_paired ks 1 _ _ alike in
       let met = paired_filter (Alike ks 1) (meets_all conds)
-      (λ t u p. all_same ks cat rels t u conds p fits (λ part k h. Contains-append_left (flat_map (condition_columns part) conds) (flat_map (column_of_part part) out) k h)) _ _ tuples in
+      (λ t u p. all_same ks cat rels t u conds p fits
+      (λ part k h. Contains-append_left (flat_map (condition_columns part) conds) (flat_map (column_of_part part) out) k h))
+      _ _ tuples in
       let shown = paired_map (Alike ks 1) (λ (t : Tuple). map (value_at t) out)
-      (λ t u p. listed_same ks cat rels t u out p listed (λ part k h. Contains-append_right (flat_map (condition_columns part) conds) (flat_map (column_of_part part) out) k h)) _ _ met in
-      ap (λ ts. distinct (projection out ts)) (sym (restrictions_pushdown conds _)) ∙ ap distinct shown ∙ ap (λ ts. distinct (projection out ts)) (restrictions_pushdown conds _)
+      (λ t u p. listed_same ks cat rels t u out p listed
+      (λ part k h. Contains-append_right (flat_map (condition_columns part) conds) (flat_map (column_of_part part) out) k h))
+      _ _ met in
+      ap (λ ts. distinct (projection out ts)) (sym (restrictions_pushdown conds _))
+      ∙ ap distinct shown
+      ∙ ap (λ ts. distinct (projection out ts)) (restrictions_pushdown conds _)
 
   -- the rows that a statement changes are whole ones of the second database
   abbrev pub HasChosen : Database → Database → Stmt → Type 0
