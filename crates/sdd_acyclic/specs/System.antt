@@ -1,4 +1,4 @@
--- Committed transactions and what they did, with no history in sight.
+-- Committed transactions and what they did, stated without histories.
 use Rattle.std.specs.Prelude.{ℕ, ◌<◌, ◌≤◌, ◌≡◌, ◌≢◌}
 
 pub record System (T : Type 0) : Type 1 where

@@ -48,7 +48,7 @@ fn say_gone_to_all(links: &mut Links, backups: u32, site: u32) -> Result<(), NoM
 }
 
 impl State {
-    /// TakesAct the message that an event delivers.
+    /// Takes the message that an event delivers.
     pub fn take(&mut self, act: &Act)
         requires sized { IsSized self.old }
         requires fits { FitsAct self.old.backups act.now }

@@ -58,7 +58,7 @@ pub fn pair(first: u32, second: u32) -> u32
 }
 
 impl State {
-    /// Before the first event.
+    /// The state before the first event.
     pub fn new(alloc: Global, backups: u32, writes: u32) -> Result<State, NoMemory>
         requires { backups ≤ 8 }
         ensures sized { IfOk result IsSized }

@@ -26,7 +26,7 @@ pub fn sources(alloc: Global, catalogue: &Catalogue) -> Result<Vec<Site>, NoMemo
     Ok(sites)
 }
 
-/// No head waits, of so many classes.
+/// One `false` for each class: no head of a pipe waits.
 pub fn no_waits(alloc: Global, classes: u32) -> Result<Vec<bool>, NoMemory>
     ensures { IfOk result (λ waits. waits.items ≡ replicate classes false) }
 {

@@ -6,6 +6,6 @@ use Rattle.sdd_lang.specs.All.{ClassPart}
 abbrev pub emptied_part : ClassPart → ClassPart
 emptied_part c = record c { reads = []; writes = [] }
 
--- the first so many are emptied
+-- the first n classes lose what they read and write
 abbrev pub retired_parts : ℕ → List ClassPart → List ClassPart
 retired_parts n classes = map emptied_part (take n classes) ++ drop n classes

@@ -7,7 +7,7 @@ use crate::copying::with_copies;
 use sdd_lang::{CatError, Catalogue, ClassPart, Listed, NoMemory, Parcel, Parts};
 use std::alloc::Global;
 
-/// The catalogue whose first so many classes read and write nothing; their numbers, names and
+/// The catalogue with classes 1 to `upto` reading and writing nothing; their numbers, names and
 /// modules stay.
 ///
 /// Costs time in the square of what there is, since it builds the catalogue anew.
@@ -32,7 +32,7 @@ fn build_valid(alloc: Global, parts: &Parts) -> Result<Catalogue, NoMemory>
     }
 }
 
-/// The parts whose first so many classes are emptied.
+/// The parts with the first `upto` classes reading and writing nothing.
 fn empty_first(alloc: Global, parts: Parts, upto: usize) -> Result<Parts, NoMemory>
     requires { upto ≤ length parts.classes }
     ensures { IfOk result (λ all. all ≡ with_classes (retired_parts upto parts.classes) parts) }
@@ -47,7 +47,7 @@ fn empty_first(alloc: Global, parts: Parts, upto: usize) -> Result<Parts, NoMemo
     })
 }
 
-/// The classes, of which the first so many are emptied.
+/// The classes, of which the first `upto` read and write nothing.
 fn empty_classes(
     alloc: Global,
     classes: &[ClassPart],

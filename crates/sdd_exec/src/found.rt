@@ -107,7 +107,7 @@ impl Found {
     }
 }
 
-/// How a row stands to the last of some rows; above it where there is none.
+/// Compares a row with the last of some rows; `Greater` where there is none.
 fn to_last(rows: &[Row], row: &Row) -> Ordering
     ensures { result ≡ to_last rows.now row.now }
 {

@@ -52,7 +52,7 @@ fn is_below(a: Cost, b: Cost) -> bool {
     a.outs < b.outs
 }
 
-/// Of two parts the one that is better taken next: one that is left, and of these that of less cost.
+/// The one of two parts that is joined next: one that isn't joined yet, and of such two the cheaper.
 fn better(
     alloc: Global,
     parts: usize,

@@ -12,7 +12,7 @@ use std::alloc::Global;
 pub struct Tie {
     /// The column, counted from 1.
     pub column: u32,
-    /// What it is to equal.
+    /// What the column must equal.
     pub to: Ref,
 }
 

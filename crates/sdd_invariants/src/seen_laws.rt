@@ -11,8 +11,8 @@ pub fn law_pipes()
         × (class_puts given class d (later ++ log) ≡ all_of (pipe_at given class d log) ++ more) }
 {}
 
-/// Where the message `m` of a class is next to be processed, each message of the class with a
-/// smaller time, whenever it is put, is processed, and none with a greater time is.
+/// When `m` is at the head of the pipe of its class, exactly the messages of the class with smaller
+/// times have been processed, also of those that are put later in the log.
 pub fn law_class_order()
     ensures { (given : Input) (class : ℕ) (d : DmNo) (later log : Log) (place : ℕ) (x m : Msg)
         → IsPermitted given (later ++ log) → number_of (home given.catalogue class) ≤ 63

@@ -129,7 +129,7 @@ impl Run {
         self.changes.delete(catalogue, rel, entries.as_slice())
     }
 
-    /// TakesStatement one more statement, or answers how the transaction fails at it.
+    /// Takes one more statement, or answers how the transaction fails at it.
     pub(crate) fn take<S: Source>(
         &mut self,
         alloc: Global,

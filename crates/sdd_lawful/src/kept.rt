@@ -12,7 +12,7 @@ pub fn law_kept()
         → KeepsLaws given.catalogue eras rows given.txns (history log) }
 {}
 
-/// The numbers that the history names exist, and so do its transactions.
+/// Every class, module and transaction number in the history exists.
 pub fn law_named()
     ensures numbers { (given : Input) (rows : List (RelNo × Row)) (eras : Eras) (log : Log)
         → IsSoundInput given → HasSoundData given rows → IsPermitted given log

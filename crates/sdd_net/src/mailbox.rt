@@ -59,7 +59,7 @@ impl<M: Drop> Mailbox<M> {
         count_at(&self.queues, place_of(from))
     }
 
-    /// TakesMessage the first message of the lowest sender of whom there is one.
+    /// Takes the first message of the lowest sender of whom there is one.
     pub fn take(&mut self) -> Option<(Site, M)>
         ensures { MatchOption result
             ((self.new ≡ self.old) × ((x : Site) → kept_from self.old x ≡ []))
@@ -115,7 +115,7 @@ fn push_at<M: Drop>(queues: &mut Vec<VecDeque<M>>, place: usize, msg: M) -> Resu
     Ok(())
 }
 
-/// TakesMessage the first item of one list.
+/// Takes the first item of one list.
 fn pop_at<M: Drop>(queues: &mut Vec<VecDeque<M>>, place: usize) -> Option<M>
     requires { place < length queues.old.items }
     ensures count { length queues.new.items ≡ length queues.old.items }
@@ -131,7 +131,7 @@ fn pop_at<M: Drop>(queues: &mut Vec<VecDeque<M>>, place: usize) -> Option<M>
     queue.pop_front()
 }
 
-/// TakesMessage the first item of the first list that isn't empty.
+/// Takes the first item of the first list that isn't empty.
 fn pop_first<M: Drop>(queues: &mut Vec<VecDeque<M>>) -> Option<(usize, M)>
     ensures count { length queues.new.items ≡ length queues.old.items }
     ensures items { MatchOption result

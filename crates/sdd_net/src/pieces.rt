@@ -60,7 +60,7 @@ impl<T: Drop> Pieces<T> {
 
     /// Puts an item at the end, in constant time but for growth.
     ///
-    /// Where no memory is there the list stays as it is.
+    /// Where memory is out the list is unchanged.
     pub fn push(&mut self, item: T) -> Result<(), NoMemory>
         ensures ok { OnOk result (self.new ≡ self.old ++ item ∷ []) }
     {

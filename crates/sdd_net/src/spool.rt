@@ -40,7 +40,7 @@ impl<M: Drop> Spool<M> {
         Ok(Spool { boxes })
     }
 
-    /// Whether the module is down. TakesMessage no memory, and constant time.
+    /// Whether the module is down. Takes no memory, and constant time.
     pub fn is_down(&self, dm: DmNo) -> bool
         requires first { 1 ≤ dm.0 }
         requires last { dm.0 ≤ length self.now }
@@ -49,7 +49,7 @@ impl<M: Drop> Spool<M> {
         self.boxes[dm.0 as usize - 1].down
     }
 
-    /// How many messages of a sender are kept for the module. TakesMessage no memory, and constant time.
+    /// How many messages of a sender are kept for the module. Takes no memory, and constant time.
     pub fn count_kept(&self, dm: DmNo, from: Site) -> usize
         requires first { 1 ≤ dm.0 }
         requires last { dm.0 ≤ length self.now }
@@ -59,7 +59,7 @@ impl<M: Drop> Spool<M> {
         self.boxes[dm.0 as usize - 1].count(from)
     }
 
-    /// The module goes down; false exactly where it is down. TakesMessage no memory.
+    /// The module goes down; false exactly where it is down. Takes no memory.
     pub fn down(&mut self, dm: DmNo) -> bool
         requires first { 1 ≤ dm.0 }
         requires last { dm.0 ≤ length self.old }
@@ -74,7 +74,7 @@ impl<M: Drop> Spool<M> {
         was_up
     }
 
-    /// The module comes up; false exactly where it isn't down. TakesMessage no memory.
+    /// The module comes up; false exactly where it isn't down. Takes no memory.
     pub fn up(&mut self, dm: DmNo) -> bool
         requires first { 1 ≤ dm.0 }
         requires last { dm.0 ≤ length self.old }
@@ -105,8 +105,8 @@ impl<M: Drop> Spool<M> {
         mailbox.put(from, msg)
     }
 
-    /// TakesMessage the earliest message of the lowest sender of whom one is kept for the module; None
-    /// exactly where none is. TakesMessage no memory; costs constant time for each sender.
+    /// Takes the earliest message of the lowest sender of whom one is kept for the module; None
+    /// exactly where none is. Takes no memory; costs constant time for each sender.
     pub fn take(&mut self, dm: DmNo) -> Option<(Site, M)>
         requires first { 1 ≤ dm.0 }
         requires last { dm.0 ≤ length self.old }

@@ -37,7 +37,7 @@ record IsOther (e : Event) (lists : List ClassList) : Type 0 where
   none_taken : lists_after e lists ≡ lists
   none_counted : redeclares_in (e ∷ []) ≡ 0
 
--- these lists are left after those that the events put in force, and there is one for each redeclare of the schedule
+-- The class lists that aren't in force yet, after some events; each redeclare that is left has one.
 
 abbrev AreLeft : Input → List ClassList → Type 0
 AreLeft g lists = map era_of_list lists ≡ drop (suc (redeclares_in g.events)) g.eras

@@ -22,8 +22,8 @@ pub fn law_one_report()
         → EndsAtLimit catalogue work → ⊥ }
 {}
 
-/// A law: the run of a workload has a report and a summary, or the limit ends the run, whatever the
-/// modules do and with no regard to memory.
+/// A law: every workload has a report and a summary of its run, unless the limit ends the run. That
+/// memory may be out is left aside.
 pub fn law_has_report()
     ensures report { (catalogue : Catalogue) (work : Workload) → IsSoundCatalogue catalogue → IsValid catalogue work
         → ((text : List ℕ) × IsReportOn catalogue work text) ⊎ EndsAtLimit catalogue work }

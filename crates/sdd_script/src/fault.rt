@@ -47,7 +47,7 @@ pub enum WorkRule {
     BadClass,
 }
 
-/// What there are too many of.
+/// What a workload may have too many of.
 #[derive(Clone, Copy, Debug, PartialEq, Eq)]
 pub enum Counts {
     /// Initial rows, and statements that put one, together.

@@ -143,7 +143,7 @@ fn word_for_many(many: Counts) -> &'static [u8]
     }
 }
 
-/// What there are too many of, where something was counted.
+/// The name of what there are too many of; none where the rule counts nothing.
 fn word_for_work_count(rule: WorkRule) -> &'static [u8]
     ensures { result.now ≡ many_words rule }
 {

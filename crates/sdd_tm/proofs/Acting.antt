@@ -34,7 +34,7 @@ done_is bases place k step state act e = rw e refl
 
 -- the room that is left
 
--- IsAmid after an act, by its parts
+-- `IsAmid` after an act, by its parts
 amid_after : (s : Setting) (bases : Bases) (log : Log) (place c : ℕ) (step : Step) (act made : Act)
     → IsAmid s bases (state_of s log) log → slice_get (runs s) place ≡ Some c
     → act_of bases (state_of s log).era.table (state_of s log).clock (class_of s log c) step ≡ Some made

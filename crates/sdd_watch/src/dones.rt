@@ -20,7 +20,7 @@ pub(crate) struct Dones {
 }
 
 impl Dones {
-    /// None.
+    /// No DONE has been received yet.
     pub(crate) fn new(alloc: Global) -> Dones
         ensures { (t d : ℕ) → contains pair_cmp result.said (t, d) ≡ false }
     {

@@ -15,8 +15,8 @@ pub fn law_one_inside()
         → EndsAtLimit catalogue work → ⊥ }
 {}
 
-/// A law: the run of a workload has a text of what happens inside it, or the limit ends the run, whatever
-/// the modules do and with no regard to memory.
+/// A law: every workload has a text of what happens inside its run, unless the limit ends the run. That
+/// memory may be out is left aside.
 pub fn law_has_inside()
     ensures { (catalogue : Catalogue) (work : Workload) → IsValid catalogue work
         → ((text : List ℕ) × IsInsideOf catalogue work text) ⊎ EndsAtLimit catalogue work }

@@ -90,7 +90,7 @@ fn moments(
 }
 
 impl Watch {
-    /// Before the first event.
+    /// What is known before the first event.
     pub(crate) fn new(
         alloc: Global,
         catalogue: &Catalogue,

@@ -41,7 +41,7 @@ known_at broken (Some x) s = Ok (x, s)
 abbrev pub meant : {A B : Type 0} → (A → Option B) → Reading A → Reading B
 meant meaning field s = after (field s) (λ x. known_at (place s) (meaning x))
 
--- so many bytes
+-- exactly n bytes
 abbrev pub piece_at : ℕ → Reading (List ℕ)
 piece_at n s =
     if nat_lt (length s.left) n then Err (place s)

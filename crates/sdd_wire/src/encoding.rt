@@ -7,7 +7,7 @@ use crate::spelled::Spelled;
 use sdd_base::NoMemory;
 use std::alloc::Global;
 
-/// A tag and the fields that aren't items of a list come to about so many bytes at most.
+/// About the most bytes of a tag and the fields that aren't items of a list.
 const USUAL_FIELDS: usize = 40;
 
 /// Most conditions, uses, rows and changes have no more bytes.

@@ -85,8 +85,8 @@ fn room_for_rows(rows: &RowList) -> usize {
     room
 }
 
-/// In so many bytes fits what `put_outcome` puts, but for backslashes in texts, so that room can be
-/// made at once. Takes time in the values, and no memory.
+/// The number of bytes in which what `put_outcome` puts fits, but for backslashes in texts, so that
+/// room can be made at once. Takes time in the values, and no memory.
 pub fn room_for_outcome(reply: &Reply) -> usize {
     let mut room = OUTCOME_ROOM;
     if let Reply::Rows(answers) = reply {

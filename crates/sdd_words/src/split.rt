@@ -20,13 +20,13 @@ pub enum Mode {
 /// What a byte does.
 #[derive(Clone, Copy)]
 pub enum Move {
-    /// It only leads on.
+    /// The byte only changes the mode.
     Goes(Mode),
-    /// It stands in the word.
+    /// The byte is one of the word.
     Adds(Mode),
-    /// It ends the word.
+    /// The byte ends the word.
     Ends,
-    /// It may not stand there.
+    /// The byte may not be there.
     Refuses,
 }
 

@@ -1,4 +1,4 @@
--- For which logs the modules of a system stand before its first event.
+-- Which logs the modules of a system represent before its first event.
 use Rattle.std.specs.Prelude.{ℕ, ◌-◌, ◌≤◌, ◌≡◌, List, [], ◌∷◌, length, slice_get, Option, Some, None}
 use Rattle.sdd_needs.specs.All.{Catalogue, D, Input, Kept, Redeclared, RelNo, Row, Setting, T, Txn, dm_no, nth_era, rows_of, tm_no}
 use Rattle.sdd_needs.specs.protocol.declared.entry.Entry.{Entry}

@@ -1,4 +1,4 @@
--- For which logs the modules of all sites stand.
+-- Which logs the modules of all sites represent.
 use Rattle.std.specs.Prelude.{ℕ}
 use Rattle.sdd_needs.specs.All.{Era, Input, IsSiteOf, Kept, Log, Setting, Site, local_of, setting_of, with_era}
 use Rattle.sdd_needs.specs.site_module.SiteLog as site
