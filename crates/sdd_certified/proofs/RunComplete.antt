@@ -50,25 +50,25 @@ module _ (cat : Catalogue) (work : Workload) (text : List ℕ) (named : AreNamed
   whole = whole_in cat work
 
   abbrev order : List TxnNo
-  order = order_of cat work r.log
+  order = order_of cat work r.of_run.log
 
   abbrev names : All (λ (t : Txn). IsName t.name) work.txns
   names = names_of_txns cat work.txns valid.txns
 
   -- what a Commit commits stands in the order
-  commit_stands : (n : TxnNo) (attempt place : ℕ) → HasCommit (history r.log) n.0 attempt place → Contains order n
+  commit_stands : (n : TxnNo) (attempt place : ℕ) → HasCommit (history r.of_run.log) n.0 attempt place → Contains order n
   commit_stands n attempt place c =
       let a = r.orderable.started n.0 attempt place c in
-      let of_attempt = subst (λ k. IsRecordAt (history r.log) place (Commit (txn_no n.0) k c.reply c.changes c.values c.rows)) (sym a.3) c.is_recorded in
+      let of_attempt = subst (λ k. IsRecordAt (history r.of_run.log) place (Commit (txn_no n.0) k c.reply c.changes c.values c.rows)) (sym a.3) c.is_recorded in
       let t : Committed = record { start = a.0; reply = c.reply; changes = c.changes; values = c.values; rows = c.rows; place = place } in
-      let is : IsCommitted (history r.log) t = record {
+      let is : IsCommitted (history r.of_run.log) t = record {
         started = a.1;
-        committed = subst (λ m. IsRecordAt (history r.log) place (Commit (txn_no m) a.0.number c.reply c.changes c.values c.rows)) (sym a.2) of_attempt;
+        committed = subst (λ m. IsRecordAt (history r.of_run.log) place (Commit (txn_no m) a.0.number c.reply c.changes c.values c.rows)) (sym a.2) of_attempt;
       } in
       subst (λ (m : ℕ). Contains order (txn_no m)) a.2 (r.serial.whole t is)
 
   -- so does what the line of a record tells
-  record_stands : (place : ℕ) (made : Rec) (name : List ℕ) → IsRecordAt (history r.log) place made
+  record_stands : (place : ℕ) (made : Rec) (name : List ℕ) → IsRecordAt (history r.of_run.log) place made
       → committed_by whole work.txns names made ≡ Some name → Contains (names_of work.txns order) name
   record_stands place (records.Commit txn attempt reply changes values rows) name is e =
       let there = commit_stands txn attempt place (record { reply = reply; changes = changes; values = values; rows = rows; is_recorded = is }) in
@@ -93,10 +93,10 @@ module _ (cat : Catalogue) (work : Workload) (text : List ℕ) (named : AreNamed
       let m = made_at h k line (omega (arith, lt)) is in
       record { place = suc m.place; made = m.made; is = m.is; line_is = m.line_is }
 
-  line_stands : (line name : List ℕ) → Contains (Lines (history r.log)) line → commit_on line ≡ Some name → Contains (names_of work.txns order) name
+  line_stands : (line name : List ℕ) → Contains (Lines (history r.of_run.log)) line → commit_on line ≡ Some name → Contains (names_of work.txns order) name
   line_stands line name there told =
-      let m = made_at (history r.log) there.0 line there.1 there.2 in
-      let recorded : IsRecordAt (history r.log) m.place m.made.1 = ap (option_map (λ (e : ℕ × Rec). e.1)) m.is in
+      let m = made_at (history r.of_run.log) there.0 line there.1 there.2 in
+      let recorded : IsRecordAt (history r.of_run.log) m.place m.made.1 = ap (option_map (λ (e : ℕ × Rec). e.1)) m.is in
       record_stands m.place m.made.1 name recorded
       (sym (line_tells whole work.txns names m.made.0 m.made.1) ∙ ap commit_on m.line_is ∙ told)
 
@@ -115,13 +115,13 @@ module _ (cat : Catalogue) (work : Workload) (text : List ℕ) (named : AreNamed
   has_order : length text ≤ MAX_REPORT_BYTES → HasOrder text
   has_order small =
       let ns : List (List ℕ) = names_of work.txns order in
-      let answers : List ℕ = replies_along ns (plain_run cat work r.log).0 in
-      let after : List ℕ = after_replies (report_of (input_of cat r.tables work) r.log) in
+      let answers : List ℕ = replies_along ns (plain_run cat work r.of_run.log).0 in
+      let after : List ℕ = after_replies (report_of (input_of cat r.of_run.tables work) r.of_run.log) in
       record {
         small = small;
-        before = Lines (history r.log);
-        before_lines = trace_lines whole work.txns named.classes names (history r.log);
-        before_order = trace_others whole work.txns named.classes names (history r.log);
+        before = Lines (history r.of_run.log);
+        before_lines = trace_lines whole work.txns named.classes names (history r.of_run.log);
+        before_order = trace_others whole work.txns named.classes names (history r.of_run.log);
         order = Order;
         order_line = no_newline-append (codes "order") (flat_map spaced ns) (search rules)
             (spaced_names whole work.txns named.classes named.fragments names ns
@@ -129,8 +129,8 @@ module _ (cat : Catalogue) (work : Workload) (text : List ℕ) (named : AreNamed
         order_is = is_order_line_again ns;
         rest = answers ++ after;
         text_is = r.text_has_replies
-            ∙ ap (λ (l : List ℕ). l ++ (order_line work.txns order ++ (answers ++ after))) (trace_is whole work.txns named.classes names (history r.log))
-            ∙ ap (λ (l : List ℕ). spelled_lines (Lines (history r.log)) ++ l) (regroup (codes "order") (flat_map spaced ns) (answers ++ after));
+            ∙ ap (λ (l : List ℕ). l ++ (order_line work.txns order ++ (answers ++ after))) (trace_is whole work.txns named.classes names (history r.of_run.log))
+            ∙ ap (λ (l : List ℕ). spelled_lines (Lines (history r.of_run.log)) ++ l) (regroup (codes "order") (flat_map spaced ns) (answers ++ after));
       }
 
   pub run_complete : length text ≤ MAX_REPORT_BYTES → complete text ≡ Yes

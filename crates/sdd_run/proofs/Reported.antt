@@ -50,10 +50,7 @@ reported cat tables work log sound valid tabled the_log text is =
     let given = replayed cat tables work sound valid tabled log the_log in
     let starting = starts cat tables work sound valid tabled log the_log in
     record {
-      tables = tables;
-      tables_are = tabled;
-      log = log;
-      log_is = the_log;
+      of_run = record { tables = tables; tables_are = tabled; log = log; log_is = the_log };
       text_is = is;
       orderable = fine;
       serial = along;
@@ -83,9 +80,6 @@ pub summed_up : (cat : Catalogue) (tables : List (List Entry)) (work : Workload)
     → (r : IsRunOf cat tables work w) (text : List ℕ) (counts : Summary) (txns : List Txn) (records : History) (events : ℕ) → text ≡ summary_text counts
     → counts ≡ summary_of (length txns) records events → txns ≡ work.txns → records ≡ history r.log → events ≡ marks r.log → IsSummaryOn cat work text
 summed_up cat tables work w tabled r text counts txns records events printed made txns_are records_are events_are = record {
-  tables = tables;
-  tables_are = tabled;
-  log = r.log;
-  log_is = r.log_is;
+  of_run = record { tables = tables; tables_are = tabled; log = r.log; log_is = r.log_is };
   text_is = printed ∙ ap summary_text (made ∙ (λ i. summary_of (length (txns_are i)) (records_are i) (events_are i)));
 }

@@ -2,7 +2,7 @@
 -- classes: then the whole catalogue has the classes of all lists, and one list after the other is in force, with the
 -- protocol table of its own catalogue. Without further lists the whole catalogue is the catalogue itself.
 use Rattle.std.specs.Prelude.{ℕ, ◌≡◌, List, [], ◌∷◌, ◌++◌, Contains, length, map}
-use Rattle.sdd_obligations.specs.All.{AreAllApplied, Catalogue, Committed, EndsByLimit, Era, Input, IsAttempt, IsClassOf, IsCommitted, IsOrderable, IsSerial, IsTable, IsTheLog, Log, Reply, Rests, TxnNo, history, marks, numbers_to, run}
+use Rattle.sdd_obligations.specs.All.{AreAllApplied, Catalogue, Committed, EndsByLimit, Era, History, Input, IsAttempt, IsClassOf, IsCommitted, IsOrderable, IsSerial, IsTable, IsTheLog, Log, Reply, Rests, TxnNo, history, marks, numbers_to, run}
 use Rattle.std.specs.List.{All, AllZip}
 use Rattle.sdd_obligations.specs.protocol.declared.entry.Entry.{Entry}
 use Rattle.sdd_script.specs.declared.workload.Workload.{Workload}
@@ -15,12 +15,12 @@ use Rattle.sdd_obligations.specs.serial_orders.Attempts.{Attempt}
 use Rattle.sdd_obligations.specs.serial_orders.SerialOrder.{serial_order}
 use Rattle.sdd_report.specs.Committed.{names_of, order_line}
 use Rattle.sdd_report.specs.Replies.{replies_along}
-use Rattle.sdd_report.specs.Report.{after_replies, report_text}
+use Rattle.sdd_report.specs.Report.{Report, after_replies, report_text}
 use Rattle.sdd_report.specs.Trace.{trace}
 use Rattle.sdd_report.specs.declared.copies.CopyTable.{CopyTable}
 use Rattle.sdd_report.specs.declared.pending.Pending.{Pending}
 use Rattle.sdd_run.specs.Clocks.{HasLowClocks}
-use Rattle.sdd_world.specs.Copies.{rows_left, tables_of}
+use Rattle.sdd_world.specs.Copies.{rows_left}
 use Rattle.sdd_progress.specs.Committed.{AllCommitted}
 use Rattle.sdd_progress.specs.Few.{AreFewRejected}
 use Rattle.sdd_progress.specs.Free.{IsFree}
@@ -67,75 +67,95 @@ plain_run cat work log = run (whole_in cat work) work.rows work.txns (order_of c
 abbrev pub IsFreeInEach : Catalogue → Workload → ℕ → Type 0
 IsFreeInEach cat work class = All (λ of_list. IsFree of_list class) (eras_in cat work)
 
--- A text is the report on the run: on the one log of what is given, by the protocol tables of the class lists, of
--- which each has one.
-pub record IsReportOn (cat : Catalogue) (work : Workload) (text : List ℕ) : Type 0 where
+-- The run of a workload: by the protocol tables of its class lists, of which each has one, the one log of what is given.
+pub record Run (cat : Catalogue) (work : Workload) : Type 0 where
   pub tables : List (List Entry)
   pub tables_are : AreTables cat work tables
   pub log : Log
   pub log_is : IsTheLog (input_of cat tables work) log
-  pub text_is : text ≡ report_text (report_of (input_of cat tables work) log)
+
+-- what is given to its world, and what the world records
+abbrev pub input : {cat : Catalogue} {work : Workload} → Run cat work → Input
+input {cat} {work} r = input_of cat r.tables work
+
+abbrev pub records : {cat : Catalogue} {work : Workload} → Run cat work → History
+records {cat} {work} r = history r.log
+
+-- the order of its report, and what one plain database replies along it and is left with
+abbrev pub order : {cat : Catalogue} {work : Workload} → Run cat work → List TxnNo
+order {cat} {work} r = order_of cat work r.log
+
+abbrev pub plain : {cat : Catalogue} {work : Workload} → Run cat work → List Reply × Database
+plain {cat} {work} r = plain_run cat work r.log
+
+-- its report, as the log gives it
+abbrev pub report : {cat : Catalogue} {work : Workload} → Run cat work → Report
+report {cat} {work} r = report_of (input r) r.log
+
+-- at each moment of it: after each beginning of its log
+abbrev pub AtEachMoment : {cat : Catalogue} {work : Workload} → Run cat work → (Log → Type 0) → Type 0
+AtEachMoment {cat} {work} r P = (later before : Log) → r.log ≡ later ++ before → P before
+
+-- A text is the report on the run of a workload.
+pub record IsReportOn (cat : Catalogue) (work : Workload) (text : List ℕ) : Type 0 where
+  pub of_run : Run cat work
+  pub text_is : text ≡ report_text (report of_run)
   -- The order in the text is serial: each committed transaction stands in it once, after all that precede it, among which
   -- are those of its own class that were submitted before it.
-  pub orderable : IsOrderable (whole_in cat work) (history log)
-  pub serial : IsSerial (whole_in cat work) (history log) (order_of cat work log)
-  pub once : (t : Committed) → IsCommitted (history log) t → times_in t.start.txn (order_of cat work log) ≡ 1
-  pub in_turn : (x y : Committed) → IsCommitted (history log) x → IsCommitted (history log) y → x.start.class ≡ y.start.class
-      → IsSubmittedBefore (history log) x y → ComesBefore (order_of cat work log) x.start.txn y.start.txn
+  pub orderable : IsOrderable (whole_in cat work) (records of_run)
+  pub serial : IsSerial (whole_in cat work) (records of_run) (order of_run)
+  pub once : (t : Committed) → IsCommitted (records of_run) t → times_in t.start.txn (order of_run) ≡ 1
+  pub in_turn : (x y : Committed) → IsCommitted (records of_run) x → IsCommitted (records of_run) y → x.start.class ≡ y.start.class
+      → IsSubmittedBefore (records of_run) x y → ComesBefore (order of_run) x.start.txn y.start.txn
   -- One plain database that begins with the workload's rows and runs the transactions in that order gives the replies of their
   -- Commits; and these are the replies in the text, after the trace and the order.
-  pub replies : AllZip (IsReplyOf (history log)) (order_of cat work log) (plain_run cat work log).0
+  pub replies : AllZip (IsReplyOf (records of_run)) (order of_run) (plain of_run).0
   pub text_has_replies : text
-      ≡ trace (whole_in cat work) work.txns (history log)
-      ++ (order_line work.txns (order_of cat work log)
-      ++ (replies_along (names_of work.txns (order_of cat work log)) (plain_run cat work log).0
-      ++ after_replies (report_of (input_of cat tables work) log)))
+      ≡ trace (whole_in cat work) work.txns (records of_run)
+      ++ (order_line work.txns (order of_run)
+      ++ (replies_along (names_of work.txns (order of_run)) (plain of_run).0 ++ after_replies (report of_run)))
   -- A copy at which all is applied that changed its fragment lists the rows that this database is left with.
-  pub copies : (copy : CopyTable) → Contains (tables_of (input_of cat tables work) log) copy
-      → AreAllApplied (history log) copy.frag.0 copy.dm.0 (length (history log))
-      → copy.rows ≡ rows_left (whole_in cat work) (plain_run cat work log).1 copy.frag.0
+  pub copies : (copy : CopyTable) → Contains (report of_run).copies copy
+      → AreAllApplied (records of_run) copy.frag.0 copy.dm.0 (length (records of_run))
+      → copy.rows ≡ rows_left (whole_in cat work) (plain of_run).1 copy.frag.0
   -- Two copies of a fragment at which the same transactions are applied that change it list the same rows.
-  pub alike : (one two : CopyTable) → Contains (tables_of (input_of cat tables work) log) one
-      → Contains (tables_of (input_of cat tables work) log) two → one.frag ≡ two.frag
-      → AreAppliedAlike (history log) one.frag.0 one.dm.0 (length (history log)) two.dm.0 (length (history log)) → one.rows ≡ two.rows
+  pub alike : (one two : CopyTable) → Contains (report of_run).copies one → Contains (report of_run).copies two → one.frag ≡ two.frag
+      → AreAppliedAlike (records of_run) one.frag.0 one.dm.0 (length (records of_run)) two.dm.0 (length (records of_run)) → one.rows ≡ two.rows
   -- No attempt of a class that lies on no simple cycle of a conflict graph waits or is rejected; and at each moment of the
   -- run of each transaction no more attempts are rejected than other transactions are committed.
-  pub free : (a : Attempt) → IsAttempt (history log) a → IsClassOf (whole_in cat work) a.class → IsFreeInEach cat work a.class
-      → IsUndisturbed (history log) a
-  pub rejections : (later before : Log) → log ≡ later ++ before → AreFewRejected (history before)
+  pub free : (a : Attempt) → IsAttempt (records of_run) a → IsClassOf (whole_in cat work) a.class → IsFreeInEach cat work a.class
+      → IsUndisturbed (records of_run) a
+  pub rejections : AtEachMoment of_run (λ before. AreFewRejected (history before))
   -- At each moment of the run each clock stands below 2^39 ticks.
-  pub low_clocks : HasLowClocks (input_of cat tables work) log
+  pub low_clocks : HasLowClocks (input of_run) of_run.log
   -- Each transaction that was submitted stands in the order once, or is listed as pending once, and never both.
-  pub nothing_lost : LosesNothing (report_of (input_of cat tables work) log)
+  pub nothing_lost : LosesNothing (report of_run)
   -- Each that is listed as pending is reported to wait for its turn in a class, for a class at a data module, or for a
   -- message of a transaction or data module: never for one of U.
-  pub reasons : (one : Pending) → Contains (report_of (input_of cat tables work) log).pending one → IsReason (whole_in cat work) one.why
+  pub reasons : (one : Pending) → Contains (report of_run).pending one → IsReason (whole_in cat work) one.why
   -- Where a settle or a redeclare is the last event, the links are quiet at the end. Where they are, and no data module is
   -- down then, each transaction that was submitted is committed, so it stands in the order, and none is pending.
-  pub quiet : EndsAtRest work.events → EndsQuiet (input_of cat tables work) log
-  pub settled : EndsQuiet (input_of cat tables work) log → NoneIsDown (whole_in cat work) log → TellsAllCommitted (report_of (input_of cat tables work) log)
+  pub quiet : EndsAtRest work.events → EndsQuiet (input of_run) of_run.log
+  pub settled : EndsQuiet (input of_run) of_run.log → NoneIsDown (whole_in cat work) of_run.log → TellsAllCommitted (report of_run)
   -- So it is at each moment between two events.
-  pub settled_before : (later before : Log) → log ≡ later ++ before → Rests (input_of cat tables work) before
-      → EndsQuiet (input_of cat tables work) before → NoneIsDown (whole_in cat work) before → AllCommitted (history before)
+  pub settled_before : AtEachMoment of_run (λ before. Rests (input of_run) before → EndsQuiet (input of_run) before
+      → NoneIsDown (whole_in cat work) before → AllCommitted (history before))
   -- At such a moment, and at the end, an outage of data modules costs no more than what needs them: a transaction of a declared
   -- class commits unless an attempt of its class needs a module that is down, or an undeclared transaction isn't done; and its
   -- change is applied at a copy unless the copy's module is down, or one that the passing of its class needs.
-  pub outage : EndsQuiet (input_of cat tables work) log → CostsNoMore (input_of cat tables work) log
-  pub outage_before : (later before : Log) → log ≡ later ++ before → Rests (input_of cat tables work) before
-      → EndsQuiet (input_of cat tables work) before → CostsNoMore (input_of cat tables work) before
+  pub outage : EndsQuiet (input of_run) of_run.log → CostsNoMore (input of_run) of_run.log
+  pub outage_before : AtEachMoment of_run (λ before. Rests (input of_run) before → EndsQuiet (input of_run) before
+      → CostsNoMore (input of_run) before)
   -- Where no data module is down at the end, each copy lists the rows that this database is left with.
-  pub left : EndsQuiet (input_of cat tables work) log → NoneIsDown (whole_in cat work) log
-      → (copy : CopyTable) → Contains (tables_of (input_of cat tables work) log) copy
-      → copy.rows ≡ rows_left (whole_in cat work) (plain_run cat work log).1 copy.frag.0
+  pub left : EndsQuiet (input of_run) of_run.log → NoneIsDown (whole_in cat work) of_run.log
+      → (copy : CopyTable) → Contains (report of_run).copies copy
+      → copy.rows ≡ rows_left (whole_in cat work) (plain of_run).1 copy.frag.0
 
 -- A text is the summary of the run: it says how many transactions there are, how many Commits, Rejects and Waits the
--- one log of what is given has, and how many events.
+-- log of the run has, and how many events.
 pub record IsSummaryOn (cat : Catalogue) (work : Workload) (text : List ℕ) : Type 0 where
-  pub tables : List (List Entry)
-  pub tables_are : AreTables cat work tables
-  pub log : Log
-  pub log_is : IsTheLog (input_of cat tables work) log
-  pub text_is : text ≡ summary_text (summary_of (length work.txns) (history log) (marks log))
+  pub of_run : Run cat work
+  pub text_is : text ≡ summary_text (summary_of (length work.txns) (records of_run) (marks of_run.log))
 
 -- the limit of events or of a link's messages ends the run
 pub record EndsAtLimit (cat : Catalogue) (work : Workload) : Type 0 where

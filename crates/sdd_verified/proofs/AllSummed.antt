@@ -11,43 +11,43 @@ module _ (cat : Catalogue) (work : Workload) (text : List ℕ) (sound : IsSoundC
   abbrev whole : Catalogue
   whole = whole_in cat work
 
-  fine : IsOrderable whole (history r.log)
-  fine = orderable cat r.tables work sound valid r.tables_are r.log r.log_is
+  fine : IsOrderable whole (history r.of_run.log)
+  fine = orderable cat r.of_run.tables work sound valid r.of_run.tables_are r.of_run.log r.of_run.log_is
 
-  along : IsSerial whole (history r.log) (order_of cat work r.log)
-  along = serial cat r.tables work sound valid r.tables_are r.log r.log_is
+  along : IsSerial whole (history r.of_run.log) (order_of cat work r.of_run.log)
+  along = serial cat r.of_run.tables work sound valid r.of_run.tables_are r.of_run.log r.of_run.log_is
 
-  keeps : KeepsStarts whole (eras_of (input_of cat r.tables work) r.log) work.txns (history r.log)
-  keeps = starts cat r.tables work sound valid r.tables_are r.log r.log_is
+  keeps : KeepsStarts whole (eras_of (input_of cat r.of_run.tables work) r.of_run.log) work.txns (history r.of_run.log)
+  keeps = starts cat r.of_run.tables work sound valid r.of_run.tables_are r.of_run.log r.of_run.log_is
 
-  up : NoneIsDown whole r.log
-  up d here = none_down (input_of cat r.tables work) r.log d (are_up work.events all.none_down) r.log_is.lawful
+  up : NoneIsDown whole r.of_run.log
+  up d here = none_down (input_of cat r.of_run.tables work) r.of_run.log d (are_up work.events all.none_down) r.of_run.log_is.lawful
 
-  links : EndsQuiet (input_of cat r.tables work) r.log
-  links = quiet_behind cat r.tables work sound valid r.tables_are r.log r.log_is all.ends
+  links : EndsQuiet (input_of cat r.of_run.tables work) r.of_run.log
+  links = quiet_behind cat r.of_run.tables work sound valid r.of_run.tables_are r.of_run.log r.of_run.log_is all.ends
 
-  committed : AllCommitted (history r.log)
-  committed = (settled cat r.tables work sound valid r.tables_are r.log r.log_is fine along links up).committed
+  committed : AllCommitted (history r.of_run.log)
+  committed = (settled cat r.of_run.tables work sound valid r.of_run.tables_are r.of_run.log r.of_run.log_is fine along links up).committed
 
   -- what is committed was submitted, so it is one of the transactions
-  within : (n number place : ℕ) → HasCommit (history r.log) n number place → IsFrom1To (length work.txns) n
+  within : (n number place : ℕ) → HasCommit (history r.of_run.log) n number place → IsFrom1To (length work.txns) n
   within n number place c =
       let a = fine.started n number place c in
       let s = keeps.submitted a.0 a.1 in
-      let there = is_in_schedule (input_of cat r.tables work) r.log r.log_is.lawful (once work.events valid.submitted) a.0.txn s.place s.submitted in
+      let there = is_in_schedule (input_of cat r.of_run.tables work) r.of_run.log r.of_run.log_is.lawful (once work.events valid.submitted) a.0.txn s.place s.submitted in
       named cat (length work.txns) n work.events valid.events (subst (λ m. 1 ≤ submits_in m work.events) a.2 there)
 
-  each : (n : ℕ) → 1 ≤ n → n ≤ length work.txns → (number : ℕ) × (place : ℕ) × HasCommit (history r.log) n number place
+  each : (n : ℕ) → 1 ≤ n → n ≤ length work.txns → (number : ℕ) × (place : ℕ) × HasCommit (history r.of_run.log) n number place
   each n lo hi =
-      let s = each_submitted (input_of cat r.tables work) r.log n r.log_is.lawful r.log_is.complete (all.submit_all n lo hi) in
+      let s = each_submitted (input_of cat r.of_run.tables work) r.of_run.log n r.of_run.log_is.lawful r.of_run.log_is.complete (all.submit_all n lo hi) in
       let c = committed n s.place s.submitted in
       (c.number, c.place, c.commit)
 
   pub all_summed : TellsAllDone (length work.txns) text
   all_summed =
       record {
-        counts = summary_of (length work.txns) (history r.log) (marks r.log);
+        counts = summary_of (length work.txns) (history r.of_run.log) (marks r.of_run.log);
         text_is = r.text_is;
         transactions = refl;
-        committed = all_counted (length work.txns) (history r.log) fine.one_commit within each;
+        committed = all_counted (length work.txns) (history r.of_run.log) fine.one_commit within each;
       }

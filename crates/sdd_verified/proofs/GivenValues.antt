@@ -48,18 +48,18 @@ module _ (P : Value → Type 0) (ints : (n : ℤ) → in_range n ≡ true → P 
         let v = All-at (IsValidTxn cat) work.txns (n - 1) t e valid.txns in
         writes_given t.statements (recursion_from_All HoldsValues t.statements v.values)
 
-    pub answers_given : AllByRecursion (Answers P ints) (run whole work.rows work.txns (serial_order whole (history r.log))).0
+    pub answers_given : AllByRecursion (Answers P ints) (run whole work.rows work.txns (serial_order whole (history r.of_run.log))).0
     answers_given =
-        serial_answers P ints whole (database_of whole work.rows) (texts_of work.txns (serial_order whole (history r.log)))
-        (first_holds P ints whole work.rows (rows_given cat work.rows valid.rows)) (texts_given work.txns writes (serial_order whole (history r.log)))
+        serial_answers P ints whole (database_of whole work.rows) (texts_of work.txns (serial_order whole (history r.of_run.log)))
+        (first_holds P ints whole work.rows (rows_given cat work.rows valid.rows)) (texts_given work.txns writes (serial_order whole (history r.of_run.log)))
 
-    pub copied_given : (table : CopyTable) → Contains (tables_of (input_of cat r.tables work) r.log) table → Hold P ints table.rows
+    pub copied_given : (table : CopyTable) → Contains (tables_of (input_of cat r.of_run.tables work) r.of_run.log) table → Hold P ints table.rows
     copied_given table there =
-        let g : Input = input_of cat r.tables work in
-        let goods = fine cat r.tables work sound valid r.tables_are in
-        let may = permitted cat r.tables work sound valid r.tables_are r.log r.log_is in
+        let g : Input = input_of cat r.of_run.tables work in
+        let goods = fine cat r.of_run.tables work sound valid r.of_run.tables_are in
+        let may = permitted cat r.of_run.tables work sound valid r.of_run.tables_are r.of_run.log r.of_run.log_is in
         subst (Hold P ints) (sym
-        (copy_rows_are g work.rows r.log sound goods may (lists cat r.tables work sound valid r.tables_are r.log r.log_is) table there))
-        (copy_holds P ints g work.rows (eras_of (input_of cat r.tables work) r.log) r.log sound goods may
-        (eras_are cat r.tables work sound valid r.tables_are r.log r.log_is) (serial_order whole (history r.log)) r.serial
-        (rows_given cat work.rows valid.rows) writes table.dm.0 (length (history r.log)) table.frag.0)
+        (copy_rows_are g work.rows r.of_run.log sound goods may (lists cat r.of_run.tables work sound valid r.of_run.tables_are r.of_run.log r.of_run.log_is) table there))
+        (copy_holds P ints g work.rows (eras_of (input_of cat r.of_run.tables work) r.of_run.log) r.of_run.log sound goods may
+        (eras_are cat r.of_run.tables work sound valid r.of_run.tables_are r.of_run.log r.of_run.log_is) (serial_order whole (history r.of_run.log)) r.serial
+        (rows_given cat work.rows valid.rows) writes table.dm.0 (length (history r.of_run.log)) table.frag.0)

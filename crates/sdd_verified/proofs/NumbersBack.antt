@@ -62,28 +62,28 @@ numbers_there txns (p ∷ left) h = (h.0, numbers_there txns left h.1)
 -- the transactions of a report are given
 
 order_there : (cat : Catalogue) (work : Workload) (text : List ℕ) → IsSoundCatalogue (whole_in cat work) → AreNamed (whole_in cat work) → IsValid cat work
-    → (r : IsReportOn cat work text) → AreThere work.txns (order_of cat work r.log)
+    → (r : IsReportOn cat work text) → AreThere work.txns (order_of cat work r.of_run.log)
 order_there cat work text sound are valid r =
-    all_by_member (λ (n : TxnNo). IsFrom1To (length work.txns) n.0) (order_of cat work r.log) (one_given cat work text sound are valid r)
+    all_by_member (λ (n : TxnNo). IsFrom1To (length work.txns) n.0) (order_of cat work r.of_run.log) (one_given cat work text sound are valid r)
 
 pending_there : (cat : Catalogue) (work : Workload) (text : List ℕ) → IsValid cat work → (r : IsReportOn cat work text)
-    → AreThere work.txns (pending_numbers (report_of (input_of cat r.tables work) r.log).pending)
+    → AreThere work.txns (pending_numbers (report_of (input_of cat r.of_run.tables work) r.of_run.log).pending)
 pending_there cat work text valid r =
-    let g : Input = input_of cat r.tables work in
-    numbers_there work.txns (report_of g r.log).pending
-    (all_by_place (λ (p : Pending). IsFrom1To (length work.txns) p.txn.0) (report_of g r.log).pending (λ j p there.
-    (let s = listed_submits (standing_at standing_at_u standing_at_t) g r.log j p there in
+    let g : Input = input_of cat r.of_run.tables work in
+    numbers_there work.txns (report_of g r.of_run.log).pending
+    (all_by_place (λ (p : Pending). IsFrom1To (length work.txns) p.txn.0) (report_of g r.of_run.log).pending (λ j p there.
+    (let s = listed_submits (standing_at standing_at_u standing_at_t) g r.of_run.log j p there in
     named_by_events cat (length work.txns) p.txn.0 work.events valid.events
-    (is_in_schedule g r.log r.log_is.lawful (once work.events valid.submitted) p.txn.0 s.0 s.1))))
+    (is_in_schedule g r.of_run.log r.of_run.log_is.lawful (once work.events valid.submitted) p.txn.0 s.0 s.1))))
 
 pub one_text_of_the_same : (cat : Catalogue) (work other : Workload) (text : List ℕ) → IsSoundCatalogue cat → AreNamed cat → IsValid cat work → IsValid cat other
     → work.txns ≡ other.txns → (one : IsReportOn cat work text) → (two : IsReportOn cat other text) → TellOfTheSame cat work other text one two
 one_text_of_the_same cat work other text sound are valid fine same one two =
     let t = one_text cat work other text sound are valid fine one two in
-    let order1 : List TxnNo = order_of cat work one.log in
-    let order2 : List TxnNo = order_of cat other two.log in
-    let left1 : List Pending = (report_of (input_of cat one.tables work) one.log).pending in
-    let left2 : List Pending = (report_of (input_of cat two.tables other) two.log).pending in
+    let order1 : List TxnNo = order_of cat work one.of_run.log in
+    let order2 : List TxnNo = order_of cat other two.of_run.log in
+    let left1 : List Pending = (report_of (input_of cat one.of_run.tables work) one.of_run.log).pending in
+    let left2 : List Pending = (report_of (input_of cat two.of_run.tables other) two.of_run.log).pending in
     record {
       order = numbers_back work.txns valid.names order1 order2
           (order_there cat work text (whole_sound cat work sound valid) (whole_named cat work are valid) valid one)

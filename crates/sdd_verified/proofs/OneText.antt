@@ -52,8 +52,8 @@ one_text cat work other text sound named valid fine one two =
     let b = same_first (order_words names1) (order_words names2) (replies_words names1 replies1 ++ behind1) (replies_words names2 replies2 ++ behind2) a.1 in
     let txns1 = names_of_txns cat work.txns valid.txns in
     let txns2 = names_of_txns cat other.txns fine.txns in
-    let same_names : names1 ≡ names2 = order_back names1 names2 (names_spaceless work.txns txns1 (order_of cat work one.log))
-    (names_spaceless other.txns txns2 (order_of cat other two.log)) b.0 in
+    let same_names : names1 ≡ names2 = order_back names1 names2 (names_spaceless work.txns txns1 (order_of cat work one.of_run.log))
+    (names_spaceless other.txns txns2 (order_of cat other two.of_run.log)) b.0 in
     let c = parted is_reply (replies_words names1 replies1) (replies_words names2 replies2) behind1 behind2
     (replies_pass is_reply (λ line. refl) (λ number rows. refl) (λ name word. refl) names1 replies1)
     (replies_pass is_reply (λ line. refl) (λ number rows. refl) (λ name word. refl) names2 replies2)
@@ -61,8 +61,8 @@ one_text cat work other text sound named valid fine one two =
     let long2 : length names1 ≡ length replies2 =
     ap (λ (l : List (List ℕ)). length l) same_names ∙ replies_long cat other text sound2 named2 fine two in
     let d = parted is_shipped shipped1 shipped2 (waiting1 ++ (kept1 ++ last)) (waiting2 ++ (kept2 ++ last))
-    (shipped_pass is_shipped (λ line. refl) work.txns (history one.log) (order_of cat work one.log))
-    (shipped_pass is_shipped (λ line. refl) other.txns (history two.log) (order_of cat other two.log))
+    (shipped_pass is_shipped (λ line. refl) work.txns (history one.of_run.log) (order_of cat work one.of_run.log))
+    (shipped_pass is_shipped (λ line. refl) other.txns (history two.of_run.log) (order_of cat other two.of_run.log))
     (behind_shipped cat work text sound1 named1 valid one) (behind_shipped cat other text sound2 named2 fine two) c.1 in
     let e = parted is_pending waiting1 waiting2 (kept1 ++ last) (kept2 ++ last)
     (pending_pass is_pending (λ line. refl) (whole_in cat work) work.txns tells1.pending)

@@ -81,9 +81,9 @@ module _ (cat : Catalogue) (work : Workload) (text : List ℕ) (sound : IsSoundC
   abbrev whole : Catalogue
   whole = whole_in cat work
 
-  pub as_many_lines : count_by tells_pending (lines_of text) ≡ length (report_of (input_of cat r.tables work) r.log).pending
+  pub as_many_lines : count_by tells_pending (lines_of text) ≡ length (report_of (input_of cat r.of_run.tables work) r.of_run.log).pending
   as_many_lines =
-      let order : List TxnNo = serial_order whole (history r.log) in
+      let order : List TxnNo = serial_order whole (history r.of_run.log) in
       ap (λ (l : List (List ℕ)). count_by tells_pending l) (lines_are cat work text sound named valid r)
       ∙ counted (happened cat work text sound named valid r)
       (replies_words (names cat work text sound named valid r) (replies cat work text sound named valid r))
@@ -91,10 +91,10 @@ module _ (cat : Catalogue) (work : Workload) (text : List ℕ) (sound : IsSoundC
       (order_words (names cat work text sound named valid r)) (codes "end")
       (all_numbered (happened cat work text sound named valid r) (trace_passes cat work text sound named valid r)) refl
       (replies_pass tells_other (λ line. refl) (λ number rows. refl) (λ name word. refl) (names cat work text sound named valid r)
-      (replies cat work text sound named valid r)) (shipped_pass tells_other (λ line. refl) work.txns (history r.log) order)
-      (pending_pass tells_pending (λ line. refl) whole work.txns (report_of (input_of cat r.tables work) r.log).pending)
-      (copies_pass tells_other whole (λ line. refl) (λ t. refl) (report_of (input_of cat r.tables work) r.log).copies) refl
-      ∙ length-map (report_of (input_of cat r.tables work) r.log).pending (pending_words whole work.txns)
+      (replies cat work text sound named valid r)) (shipped_pass tells_other (λ line. refl) work.txns (history r.of_run.log) order)
+      (pending_pass tells_pending (λ line. refl) whole work.txns (report_of (input_of cat r.of_run.tables work) r.of_run.log).pending)
+      (copies_pass tells_other whole (λ line. refl) (λ t. refl) (report_of (input_of cat r.of_run.tables work) r.of_run.log).copies) refl
+      ∙ length-map (report_of (input_of cat r.of_run.tables work) r.of_run.log).pending (pending_words whole work.txns)
 
-  pub no_line : (report_of (input_of cat r.tables work) r.log).pending ≡ [] → (line : List ℕ) → Contains (lines_of text) line → tells_pending line ≡ false
+  pub no_line : (report_of (input_of cat r.of_run.tables work) r.of_run.log).pending ≡ [] → (line : List ℕ) → Contains (lines_of text) line → tells_pending line ≡ false
   no_line empty line there = none_there (lines_of text) (as_many_lines ∙ ap (λ (xs : List Pending). length xs) empty) line there

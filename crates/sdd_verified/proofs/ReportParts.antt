@@ -35,25 +35,25 @@ module _ (cat : Catalogue) (work : Workload) (text : List ℕ) (sound : IsSoundC
   whole = whole_in cat work
 
   abbrev pub order : List TxnNo
-  order = serial_order whole (history r.log)
+  order = serial_order whole (history r.of_run.log)
 
   abbrev pub names : List (List ℕ)
-  names = names_of work.txns (serial_order whole (history r.log))
+  names = names_of work.txns (serial_order whole (history r.of_run.log))
 
   abbrev pub replies : List Reply
-  replies = (run whole work.rows work.txns (serial_order whole (history r.log))).0
+  replies = (run whole work.rows work.txns (serial_order whole (history r.of_run.log))).0
 
   abbrev pub tells : Report
-  tells = report_of (input_of cat r.tables work) r.log
+  tells = report_of (input_of cat r.of_run.tables work) r.of_run.log
 
   pub txns_named : All (λ (t : Txn). IsName t.name) work.txns
   txns_named = names_of_txns cat work.txns valid.txns
 
   abbrev pub happened : List (List ℕ)
-  happened = lines_in whole work.txns named.classes txns_named (history r.log)
+  happened = lines_in whole work.txns named.classes txns_named (history r.of_run.log)
 
   abbrev pub shipped : List (List ℕ)
-  shipped = all_shipped_words work.txns (history r.log) (serial_order whole (history r.log))
+  shipped = all_shipped_words work.txns (history r.of_run.log) (serial_order whole (history r.of_run.log))
 
   abbrev pub waiting : List (List ℕ)
   waiting = all_pending_words whole work.txns tells.pending
@@ -68,7 +68,7 @@ module _ (cat : Catalogue) (work : Workload) (text : List ℕ) (sound : IsSoundC
   spelled =
       let c = named.classes in
       let f = named.fragments in
-      let shipped_text = all_shipped_spell whole work.txns c f txns_named (history r.log) order in
+      let shipped_text = all_shipped_spell whole work.txns c f txns_named (history r.of_run.log) order in
       let copies_text = copies_spell whole work.txns c f txns_named tells.copies
       (all_by_member (λ (table : CopyTable). Hold IsClean ints_clean table.rows) tells.copies
       (copied_given IsClean ints_clean clean cat work text sound valid r)) in
@@ -82,7 +82,7 @@ module _ (cat : Catalogue) (work : Workload) (text : List ℕ) (sound : IsSoundC
       let ordered = spells_both (order_words names ∷ []) (replies_words names replies ++ (shipped ++ (waiting ++ (kept ++ codes "end" ∷ []))))
       (order_line work.txns order) _ (order_spells whole work.txns c f txns_named order) answered in
       let everything = spells_both happened (order_words names ∷ (replies_words names replies ++ (shipped ++ (waiting ++ (kept ++ codes "end" ∷ [])))))
-      (trace whole work.txns (history r.log)) _ (trace_spells whole work.txns c f txns_named (history r.log)) ordered in
+      (trace whole work.txns (history r.of_run.log)) _ (trace_spells whole work.txns c f txns_named (history r.of_run.log)) ordered in
       subst (Spells all_lines) (sym r.text_has_replies) everything
 
   pub lines_are : (cut_lines text).0 ≡ all_lines
@@ -98,10 +98,10 @@ module _ (cat : Catalogue) (work : Workload) (text : List ℕ) (sound : IsSoundC
       (numbered_by d.first d.rest _ d.is d.most (spaced (record_words whole work.txns made.1)), happened_pass h)
 
   pub trace_passes : AllPass is_numbered happened
-  trace_passes = happened_pass (history r.log)
+  trace_passes = happened_pass (history r.of_run.log)
 
   pub replies_long : length names ≡ length replies
-  replies_long = length-map order (λ (n : TxnNo). txn_name work.txns n.0) ∙ zip_long (IsReplyOf (history r.log)) order replies r.replies
+  replies_long = length-map order (λ (n : TxnNo). txn_name work.txns n.0) ∙ zip_long (IsReplyOf (history r.of_run.log)) order replies r.replies
 
   pub answers_are_given : AllByRecursion AreAnswers replies
   answers_are_given = answers_given FitsReport ints_fit_report fits_report cat work text sound valid r
@@ -126,6 +126,6 @@ module _ (cat : Catalogue) (work : Workload) (text : List ℕ) (sound : IsSoundC
 
   pub behind_replies : FirstFails is_reply (shipped ++ (waiting ++ (kept ++ codes "end" ∷ [])))
   behind_replies =
-      fails_on is_reply shipped (waiting ++ (kept ++ codes "end" ∷ [])) (first_shipped is_reply (λ line. refl) work.txns (history r.log) order)
+      fails_on is_reply shipped (waiting ++ (kept ++ codes "end" ∷ [])) (first_shipped is_reply (λ line. refl) work.txns (history r.of_run.log) order)
       (fails_on is_reply waiting (kept ++ codes "end" ∷ []) (first_pending is_reply (λ line. refl) whole work.txns tells.pending)
       (copies_fail is_reply (λ t. refl) refl))

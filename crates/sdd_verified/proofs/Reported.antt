@@ -30,16 +30,16 @@ module _ (cat : Catalogue) (work : Workload) (text : List ℕ) (sound : IsSoundC
   whole = whole_in cat work
 
   abbrev given : Input
-  given = input_of cat r.tables work
+  given = input_of cat r.of_run.tables work
 
   abbrev Happened : History
-  Happened = history r.log
+  Happened = history r.of_run.log
 
   abbrev order : List TxnNo
-  order = serial_order whole (history r.log)
+  order = serial_order whole (history r.of_run.log)
 
-  keeps : KeepsStarts whole (eras_of given r.log) work.txns (history r.log)
-  keeps = starts cat r.tables work sound valid r.tables_are r.log r.log_is
+  keeps : KeepsStarts whole (eras_of given r.of_run.log) work.txns (history r.of_run.log)
+  keeps = starts cat r.of_run.tables work sound valid r.of_run.tables_are r.of_run.log r.of_run.log_is
 
   few : AreSubmittedOnce work.events
   few = once work.events valid.submitted
@@ -47,9 +47,9 @@ module _ (cat : Catalogue) (work : Workload) (text : List ℕ) (sound : IsSoundC
   -- a transaction of the order is committed, and was submitted
   record IsMember (n : TxnNo) : Type 0 where
     committed : Committed
-    is_committed : IsCommitted (history r.log) committed
+    is_committed : IsCommitted (history r.of_run.log) committed
     number_is : committed.start.txn ≡ n.0
-    of_submit : IsOfSubmit whole (eras_of given r.log) work.txns (history r.log) committed.start
+    of_submit : IsOfSubmit whole (eras_of given r.of_run.log) work.txns (history r.of_run.log) committed.start
 
   is_member : (n : TxnNo) → Contains order n → IsMember n
   is_member n there =
@@ -59,10 +59,10 @@ module _ (cat : Catalogue) (work : Workload) (text : List ℕ) (sound : IsSoundC
   some : (n : TxnNo) → IsMember n → 1 ≤ submits_in n.0 work.events
   some n m =
       subst (λ (k : ℕ). 1 ≤ submits_in k work.events) m.number_is
-      (is_in_schedule given r.log r.log_is.lawful few m.committed.start.txn m.of_submit.place m.of_submit.submitted)
+      (is_in_schedule given r.of_run.log r.of_run.log_is.lawful few m.committed.start.txn m.of_submit.place m.of_submit.submitted)
 
   -- so it is one of the transactions that are given
-  pub one_given : (n : TxnNo) → Contains (serial_order whole (history r.log)) n → IsFrom1To (length work.txns) n.0
+  pub one_given : (n : TxnNo) → Contains (serial_order whole (history r.of_run.log)) n → IsFrom1To (length work.txns) n.0
   one_given n there = named_by_events cat (length work.txns) n.0 work.events valid.events (some n (is_member n there))
 
   abbrev has_text : (n : TxnNo) → IsMember n → HasText work.txns n
@@ -73,18 +73,18 @@ module _ (cat : Catalogue) (work : Workload) (text : List ℕ) (sound : IsSoundC
   few_ticks_given : AllFewTicks given.events
   few_ticks_given = few_ticks cat (length work.txns) work.events valid.events
 
-  list_in_force : (k : ℕ) → k ≤ redeclares r.log → (nth_era given k).catalogue ≡ era_at cat (eras_in cat work) k
+  list_in_force : (k : ℕ) → k ≤ redeclares r.of_run.log → (nth_era given k).catalogue ≡ era_at cat (eras_in cat work) k
   list_in_force k most =
-      let last = few_lists cat r.tables work sound valid r.tables_are r.log r.log_is.lawful in
+      let last = few_lists cat r.of_run.tables work sound valid r.of_run.tables_are r.of_run.log r.of_run.log_is.lawful in
       sym (index_or (eras_in cat work) k cat (nth_era given k).catalogue
-      (list_at_number cat r.tables work r.tables_are k (omega (arith, most, last))).there)
+      (list_at_number cat r.of_run.tables work r.of_run.tables_are k (omega (arith, most, last))).there)
 
-  current_era_is : (n place : ℕ) → IsSubmitted (history r.log) n place
-      → catalogue_at whole (eras_of given r.log) (event_at (history r.log) place) ≡ era_at cat (eras_in cat work) (redeclared_at n 0 work.events)
+  current_era_is : (n place : ℕ) → IsSubmitted (history r.of_run.log) n place
+      → catalogue_at whole (eras_of given r.of_run.log) (event_at (history r.of_run.log) place) ≡ era_at cat (eras_in cat work) (redeclared_at n 0 work.events)
   current_era_is n place s =
-      let x = list_at given r.log r.log_is.lawful few few_ticks_given n place s in
-      ap (λ (p : ℕ). catalogue_at whole (eras_of given r.log) (event_at (history r.log) p)) (sym x.place_is)
-      ∙ event_of_submit given r.log (eras_of given r.log) n x.later x.rest x.at (eras_are cat r.tables work sound valid r.tables_are r.log r.log_is) x.is
+      let x = list_at given r.of_run.log r.of_run.log_is.lawful few few_ticks_given n place s in
+      ap (λ (p : ℕ). catalogue_at whole (eras_of given r.of_run.log) (event_at (history r.of_run.log) p)) (sym x.place_is)
+      ∙ event_of_submit given r.of_run.log (eras_of given r.of_run.log) n x.later x.rest x.at (eras_are cat r.of_run.tables work sound valid r.of_run.tables_are r.of_run.log r.of_run.log_is) x.is
       ∙ list_in_force (redeclares x.rest) x.few ∙ ap (era_at cat (eras_in cat work)) x.lists_are
 
   class_is : (n : TxnNo) → (m : IsMember n) → class_of (classes_submitted cat work) (moved cat work valid n) ≡ m.committed.start.class
@@ -99,7 +99,7 @@ module _ (cat : Catalogue) (work : Workload) (text : List ℕ) (sound : IsSoundC
   all_submitted = all_members (IsSubmittedOne cat work valid) order (λ n there. some n (is_member n there))
 
   apart : AreDifferent order
-  apart = different whole (history r.log) order r.serial.along
+  apart = different whole (history r.of_run.log) order r.serial.along
 
   -- of one class the one that was submitted first stands first
   not_turned : (i k : ℕ) → i < k → k < length order → class_of (classes_submitted cat work) (moved cat work valid (at order i))
@@ -110,11 +110,11 @@ module _ (cat : Catalogue) (work : Workload) (text : List ℕ) (sound : IsSoundC
       let y = is_member (at order k) (member order k within) in
       let s = separates work.events (at order k).0 (at order i).0 (some (at order k) y) turned in
       let other : (at order k).0 ≢ (at order i).0 = λ e. apart i k less within (sym e) in
-      let first = subst (λ (n : ℕ). IsSubmitted (history r.log) n y.of_submit.place) y.number_is y.of_submit.submitted in
-      let second = subst (λ (n : ℕ). IsSubmitted (history r.log) n x.of_submit.place) x.number_is x.of_submit.submitted in
-      let before = submitted_first given r.log r.log_is.lawful few (at order k).0
+      let first = subst (λ (n : ℕ). IsSubmitted (history r.of_run.log) n y.of_submit.place) y.number_is y.of_submit.submitted in
+      let second = subst (λ (n : ℕ). IsSubmitted (history r.of_run.log) n x.of_submit.place) x.number_is x.of_submit.submitted in
+      let before = submitted_first given r.of_run.log r.of_run.log_is.lawful few (at order k).0
       (at order i).0 y.of_submit.place x.of_submit.place other s first second in
-      let submitted_before : IsSubmittedBefore (history r.log) y.committed x.committed = record {
+      let submitted_before : IsSubmittedBefore (history r.of_run.log) y.committed x.committed = record {
         first_place = y.of_submit.place;
         second_place = x.of_submit.place;
         first = y.of_submit.submitted;
@@ -148,7 +148,7 @@ module _ (cat : Catalogue) (work : Workload) (text : List ℕ) (sound : IsSoundC
   -- the text, part by part
 
   abbrev reported : Report
-  reported = report_of given r.log
+  reported = report_of given r.of_run.log
 
   follows : FirstLine (after_replies reported)
   follows = grind (arith, first_line, rest_begins, whole_end)
@@ -165,7 +165,7 @@ module _ (cat : Catalogue) (work : Workload) (text : List ℕ) (sound : IsSoundC
   pub verified : length text ≤ MAX_REPORT_BYTES → IsVerified cat work text
   verified small =
       let names = names_of_txns cat work.txns valid.txns in
-      let before : List (List ℕ) = lines_in whole work.txns named.classes names (history r.log) in
+      let before : List (List ℕ) = lines_in whole work.txns named.classes names (history r.of_run.log) in
       let line : List ℕ = order_line work.txns order in
       let answers : List ℕ = replies_along (names_of work.txns order) (run whole work.rows work.txns order).0 in
       let after : List ℕ = after_replies reported in
@@ -175,13 +175,13 @@ module _ (cat : Catalogue) (work : Workload) (text : List ℕ) (sound : IsSoundC
         are_submitted = moved_there cat work valid order all_submitted;
         in_turn = moved_turn cat work valid order in_turn;
         before = before;
-        before_lines = trace_lines whole work.txns named.classes names (history r.log);
-        before_order = trace_others whole work.txns named.classes names (history r.log);
+        before_lines = trace_lines whole work.txns named.classes names (history r.of_run.log);
+        before_order = trace_others whole work.txns named.classes names (history r.of_run.log);
         next = follows.next;
         next_line = follows.line;
         next_other = follows.other;
         rest = follows.rest;
-        text_is = r.text_has_replies ∙ ap (λ (l : List ℕ). l ++ (line ++ (answers ++ after))) (trace_is whole work.txns named.classes names (history r.log))
+        text_is = r.text_has_replies ∙ ap (λ (l : List ℕ). l ++ (line ++ (answers ++ after))) (trace_is whole work.txns named.classes names (history r.of_run.log))
             ∙ ap (λ (l : List ℕ). spelled_lines before ++ (l ++ (answers ++ after))) (sym (moved_line cat work valid order all_submitted))
             ∙ ap (λ (l : List ℕ). spelled_lines before ++ (order_line (submitted work) (map (moved cat work valid) order) ++ (l ++ after))) replied
             ∙ ap (λ (l : List ℕ). spelled_lines before ++ (order_line (submitted work)

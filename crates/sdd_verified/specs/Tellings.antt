@@ -6,8 +6,7 @@ use Rattle.sdd_run.specs.report.Copies.{place_words}
 use Rattle.sdd_run.specs.report.Names.{txn_name}
 use Rattle.sdd_run.specs.report.declared.copies.CopyTable.{CopyTable}
 use Rattle.sdd_run.specs.report.declared.pending.Pending.{Pending}
-use Rattle.sdd_run.specs.Reports.{report_of}
-use Rattle.sdd_run.specs.Runs.{IsReportOn, input_of, order_of, plain_run}
+use Rattle.sdd_run.specs.Runs.{IsReportOn, order_of, plain, report}
 use Rattle.sdd_run.specs.script.declared.workload.Workload.{Workload}
 
 -- the names of the pending transactions, and their numbers
@@ -24,16 +23,12 @@ reported_copies cat copies = map (λ (t : CopyTable). (place_words cat t.dm.0 t.
 -- two reports say the same: the names of the committed transactions in their order, the replies along it, the names of
 -- the pending ones, and the copies
 pub record TellAlike (cat : Catalogue) (work other : Workload) (text : List ℕ) (one : IsReportOn cat work text) (two : IsReportOn cat other text) : Type 0 where
-  pub order : names_of work.txns (order_of cat work one.log) ≡ names_of other.txns (order_of cat other two.log)
-  pub replies : (plain_run cat work one.log).0
-      ≡ (plain_run cat other two.log).0
-  pub pending : pending_names work.txns (report_of (input_of cat one.tables work) one.log).pending
-      ≡ pending_names other.txns (report_of (input_of cat two.tables other) two.log).pending
-  pub copies : reported_copies cat (report_of (input_of cat one.tables work) one.log).copies
-      ≡ reported_copies cat (report_of (input_of cat two.tables other) two.log).copies
+  pub order : names_of work.txns (order_of cat work one.of_run.log) ≡ names_of other.txns (order_of cat other two.of_run.log)
+  pub replies : (plain one.of_run).0 ≡ (plain two.of_run).0
+  pub pending : pending_names work.txns (report one.of_run).pending ≡ pending_names other.txns (report two.of_run).pending
+  pub copies : reported_copies cat (report one.of_run).copies ≡ reported_copies cat (report two.of_run).copies
 
 -- and where they are of the same transactions, these stand in the same order, and the same are pending
 pub record TellOfTheSame (cat : Catalogue) (work other : Workload) (text : List ℕ) (one : IsReportOn cat work text) (two : IsReportOn cat other text) : Type 0 where
-  pub order : order_of cat work one.log ≡ order_of cat other two.log
-  pub pending : pending_numbers (report_of (input_of cat one.tables work) one.log).pending
-      ≡ pending_numbers (report_of (input_of cat two.tables other) two.log).pending
+  pub order : order_of cat work one.of_run.log ≡ order_of cat other two.of_run.log
+  pub pending : pending_numbers (report one.of_run).pending ≡ pending_numbers (report two.of_run).pending

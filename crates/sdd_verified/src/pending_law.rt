@@ -2,8 +2,7 @@
 ghost use Rattle.std.specs.Prelude.{ℕ, ◌≡◌, [], false, Contains, List, count_by, length};
 ghost use Rattle.sdd_obligations.specs.All.{Catalogue, IsSoundCatalogue};
 ghost use Rattle.sdd_obligations.specs.catalog.Naming.{AreNamed};
-ghost use Rattle.sdd_run.specs.Reports.{report_of};
-ghost use Rattle.sdd_run.specs.Runs.{IsReportOn, input_of};
+ghost use Rattle.sdd_run.specs.Runs.{IsReportOn, report};
 ghost use Rattle.sdd_run.specs.script.Valid.{IsValid};
 ghost use Rattle.sdd_run.specs.script.declared.workload.Workload.{Workload};
 ghost use Rattle.sdd_verify.specs.Lines.{lines_of};
@@ -14,9 +13,9 @@ ghost use Rattle.sdd_verified.specs.Lines.{tells_pending};
 pub fn law_pending_lines()
     ensures as_many { (catalogue : Catalogue) (work : Workload) (text : List ℕ) → IsSoundCatalogue catalogue → AreNamed catalogue → IsValid catalogue work
         → (reported : IsReportOn catalogue work text)
-        → count_by tells_pending (lines_of text) ≡ length (report_of (input_of catalogue reported.tables work) reported.log).pending }
+        → count_by tells_pending (lines_of text) ≡ length (report reported.of_run).pending }
     ensures no_line { (catalogue : Catalogue) (work : Workload) (text : List ℕ) → IsSoundCatalogue catalogue → AreNamed catalogue → IsValid catalogue work
         → (reported : IsReportOn catalogue work text)
-        → (report_of (input_of catalogue reported.tables work) reported.log).pending ≡ []
+        → (report reported.of_run).pending ≡ []
         → (line : List ℕ) → Contains (lines_of text) line → tells_pending line ≡ false }
 {}

@@ -39,4 +39,7 @@ pub inside_of : (cat : Catalogue) (tables : List (List Entry)) (work : Workload)
     → (text : List ℕ) → IsTextOf (with_events (first_input cat tables work) events) text → IsInsideOf cat work text
 inside_of cat tables work tabled events same text h =
     let whole = subst (λ g. IsTextOf g text) (ap (with_events (first_input cat tables work)) same ∙ all_given cat tables work) h in
-    record { tables = tables; tables_are = tabled; log = whole.log; log_is = whole.log_is; text_is = whole.text_is }
+    record {
+      of_run = record { tables = tables; tables_are = tabled; log = whole.log; log_is = whole.log_is };
+      text_is = whole.text_is;
+    }

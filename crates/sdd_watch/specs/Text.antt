@@ -1,13 +1,12 @@
 -- The text of what happens inside the run of a workload.
 use Rattle.std.specs.Prelude.{ℕ, ◌-◌, ◌≡◌, List, [], ◌++◌}
 use Rattle.std.specs.List.{flat_map}
-use Rattle.sdd_obligations.specs.All.{Catalogue, Input, IsTheLog, Log, marks, numbers_to}
-use Rattle.sdd_obligations.specs.protocol.declared.entry.Entry.{Entry}
+use Rattle.sdd_obligations.specs.All.{Catalogue, Input, Log, marks, numbers_to}
 use Rattle.sdd_inside.specs.Differences.{difference}
 use Rattle.sdd_inside.specs.Lines.{beginning, line}
 use Rattle.sdd_inside.specs.declared.delta.Delta.{Delta}
 use Rattle.sdd_run.specs.world.Copies.{tables_of}
-use Rattle.sdd_run.specs.Runs.{AreTables, input_of}
+use Rattle.sdd_run.specs.Runs.{Run, input}
 use Rattle.sdd_run.specs.script.declared.workload.Workload.{Workload}
 use Rattle.sdd_watch.specs.Happens.{happened_at}
 use Rattle.sdd_watch.specs.Moments.{at_event, moment_of}
@@ -24,11 +23,7 @@ line_of g log k = line g.catalogue g.txns (change g (at_event (k - 1) log) (at_e
 abbrev pub inside_text : Input → Log → List ℕ
 inside_text g log = beginning g.catalogue g.txns (tables_of g []) ++ flat_map (line_of g log) (numbers_to (marks log))
 
--- A text is that of the run of a workload: of the one log of what is given, by the protocol tables of the class lists,
--- of which each has one.
+-- A text is that of the run of a workload: of the same run as its report is (`IsReportOn`).
 pub record IsInsideOf (cat : Catalogue) (work : Workload) (text : List ℕ) : Type 0 where
-  pub tables : List (List Entry)
-  pub tables_are : AreTables cat work tables
-  pub log : Log
-  pub log_is : IsTheLog (input_of cat tables work) log
-  pub text_is : text ≡ inside_text (input_of cat tables work) log
+  pub of_run : Run cat work
+  pub text_is : text ≡ inside_text (input of_run) of_run.log
