@@ -12,8 +12,9 @@ class Outside:
     """What a call answers: from the reference, and by the rules for calls that fail.
 
     A file of n bytes takes n + 2 calls of a shelf that gives one byte a read: one opens it, and the last
-    finds its end. The catalogue is read first; where it has a fault, the workload isn't read. A sink that
-    takes m bytes a call takes the next m in each call, until one fails or takes none.
+    finds its end. The catalogue is read first; where it has a fault, the workload isn't read, and where that
+    has one, the report isn't. A sink that takes m bytes a call takes the next m in each call, until one fails
+    or takes none.
     """
 
     def __init__(self, command):
@@ -42,7 +43,7 @@ class Outside:
 
 def shelf_calls(words, files, status):
     """How many calls of the shelf, one byte a read, come to the end of the files that are read."""
-    named = words[1:] if status != 3 else words[1:2]
+    named = words[1:{3: 2, 4: 3}.get(status)]
     return sum(len(files[x]) + 2 for x in named)
 
 

@@ -21,6 +21,10 @@ class Call(NamedTuple):
     words: list
     files: dict             # name -> bytes
 
+    def program(self):
+        """The program that has the call: `sdd1`, but for the questions of `sdd1_ask` and the word of `sdd1_inside`."""
+        return {"inside": "inside", "robust": "ask", "needs": "ask", "certify": "ask"}.get("".join(self.words[:1]), "sdd1")
+
 
 # Texts that are changed here and there.
 
@@ -205,6 +209,31 @@ def verify_call(rng):
     return Call(["verify", "cat", "work", "report"], {**files, "report": report})
 
 
+def certify_call(rng):
+    """The report of another call, or one whose order lacks a name, or whose lines before it are exchanged."""
+    _, files = verify_call(rng)
+    lines = files["report"].split(b"\n")
+    at = next((k for k, line in enumerate(lines) if line.startswith(b"order")), 0)
+    way = rng.random()
+    if way < 0.3:
+        names = lines[at].split(b" ")
+        del names[rng.randrange(len(names))]
+        lines[at] = b" ".join(names)
+    elif way < 0.5 and at:
+        k, j = rng.randrange(at), rng.randrange(at)
+        lines[k], lines[j] = lines[j], lines[k]
+    elif way < 0.6:
+        lines.insert(rng.randint(0, at), b"7 commit " + rng.choice(STRANGE_BYTES[2:] + [b"nobody", b"t1#9", b"a#b#c", b"#"]))
+    return Call(["certify", "cat", "work", "report"], {**files, "report": b"\n".join(lines)})
+
+
+def questions_call(rng):
+    cat = inputs.catalogue(rng, rng.choice([3, 5, 8, 12]))
+    if rng.random() < 0.1:
+        cat = faulty(rng, cat)
+    return Call([rng.choice(["robust", "needs"]), "cat"], {"cat": catalogue_text(cat).encode()})
+
+
 def make_call(rng):
     return Call(["make", str(rng.choice([rng.randrange(2**31), rng.randrange(100)])), str(rng.choice([0, 1, 5, 20, 64, 70]))], {})
 
@@ -222,4 +251,6 @@ def words_call(rng):
 
 KINDS = {"catalogue": catalogue_call, "faulty-catalogue": faulty_catalogue_call, "toml": toml_call, "plain": plain_call,
          "faulty-workload": faulty_workload_call, "run": run_call, "lists": lists_call, "control": control_call,
-         "verify": verify_call, "make": make_call, "words": words_call, "inside": inside_call}
+         "verify": verify_call, "make": make_call, "words": words_call, "inside": inside_call, "questions": questions_call,
+         "certify": certify_call}
+OWN_PROGRAMS = {"inside": "inside", "questions": "ask", "certify": "ask"}       # of the kinds that aren't calls of sdd1

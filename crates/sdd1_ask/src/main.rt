@@ -1,5 +1,5 @@
-//! The program for questions that a catalogue answers: the words, files and streams of the system, handed
-//! to its call.
+//! The program for questions that a catalogue answers, and for certificates of reports: the words, files
+//! and streams of the system, handed to its call.
 //!
 //! What is read and printed is proved at `run_ask`; that the process ends with the status's number, at
 //! `exit_code`; what is said if memory runs out before that call, at `end_out_of_memory`; which bytes

@@ -1,1 +1,4 @@
-pub mod Asking
+pub mod Answer
+pub mod Calls
+pub mod Endings
+pub mod Forms

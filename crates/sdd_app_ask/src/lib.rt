@@ -1,10 +1,15 @@
 //! The call of the program for questions, over a shelf of files and two sinks that are handed in.
 //!
-//! `run_ask` is the one contract to the layer above. Its words are a question and the name of a
-//! catalogue; what it comes to is defined in `specs/Asking.antt`: the first fault of the catalogue, or
-//! the answer (`sdd_ask`). How a call ends, and how its file is read and judged, is `sdd_shell`'s.
+//! `run_ask` is the one contract to the layer above. Its words are a question and the names of the files
+//! that it is about; what it comes to is defined in `specs/Answer.antt`: the first fault of the catalogue
+//! or of the workload, or the answer, of the catalogue alone (`sdd_ask`) or of a report on the workload
+//! (`sdd_certify`). How a call ends, and how its first files are read and judged, is `sdd_shell`'s.
 #![tactic(auto)]
 
+mod asked;
 mod asking;
+mod certifying;
+mod questions;
 
-pub use asking::{Question, run_ask};
+pub use asked::Question;
+pub use asking::run_ask;

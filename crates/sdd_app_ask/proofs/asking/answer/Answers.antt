@@ -1,22 +1,27 @@
-use Rattle.std.proofs.Common.{map, string_bytes}
+use Rattle.std.proofs.Common.{Some, ap, arith, map, string_bytes, subst, ℕ, ◌+◌, ◌∙◌, ◌≡◌}
 use Rattle.sdd_shell.proofs.Calls.{form_answers, no_form_answers}
-use Rattle.sdd_app_ask.specs.Asking.{ask_call, form_of}
-use Rattle.sdd_app_ask.proofs.Forms.{at_more_of, found, no_form}
+use Rattle.sdd_app_ask.specs.Calls.{ask_call}
+use Rattle.sdd_app_ask.specs.Forms.{Certify, OfCatalogue, form_of}
+use Rattle.sdd_app_ask.proofs.Forms.{found_form, no_form}
+use Rattle.sdd_app_ask.proofs.Verdicts.{at_more_of}
 use Rattle.sdd_app_ask.proofs.asking.answer.Goals as goal
+
+three : (free : ℕ) → free + 3 ≡ free + 1 + 1 + 1
+three free = omega arith
 
 pub returns-in-None-clause-answers : goal.returns-in-None-clause-answers
 returns-in-None-clause-answers g c =
     let words = map string_bytes c.args.words.now in
     no_form_answers ask_call words _ (no_form words c.in-None.ensures.none) c.in-None.ensures.none
 
-pub returns-in-Some-clause-answers : goal.returns-in-Some-clause-answers
-returns-in-Some-clause-answers g c =
+pub returns-in-OfCatalogue-clause-answers : goal.returns-in-OfCatalogue-clause-answers
+returns-in-OfCatalogue-clause-answers g c =
     let words = map string_bytes c.args.words.now in
-    let question = c.in-Some.asked.question in
-    let cat = c.in-Some.asked.catalogue.now in
-    let is = c.in-Some.ensures.found in
+    let form = form_of c.in-Some.asked in
+    let found = c.in-Some.ensures.found in
     let e = c.question_answer.ensures in
-    form_answers ask_call words (form_of question cat) _ _ c.question_answer.result (found words question cat is) (λ none. none (form_of question cat) is)
+    form_answers ask_call words (OfCatalogue c.in-OfCatalogue.question c.in-OfCatalogue.catalogue.now) _ _ c.question_answer.result
+    (found_form words form found ∙ ap (λ asked. Some (form_of asked)) c.in-OfCatalogue.is) (λ none. none form found)
     (record {
       answered = e.answered;
       ended = e.ended;
@@ -26,5 +31,26 @@ returns-in-Some-clause-answers g c =
       surely = λ free fs room over there. e.surely free fs room over there;
     })
 
-pub returns-in-Some-clause-untouched : goal.returns-in-Some-clause-untouched
-returns-in-Some-clause-untouched g c = λ none. absurd (none (form_of _ _) c.in-Some.ensures.found)
+pub returns-in-Certify-clause-answers : goal.returns-in-Certify-clause-answers
+returns-in-Certify-clause-answers g c =
+    let words = map string_bytes c.args.words.now in
+    let form = form_of c.in-Some.asked in
+    let found = c.in-Some.ensures.found in
+    let e = c.certify_answer.ensures in
+    form_answers ask_call words (Certify c.in-Certify.catalogue.now c.in-Certify.workload.now c.in-Certify.report.now) _ _ c.certify_answer.result
+    (found_form words form found ∙ ap (λ asked. Some (form_of asked)) c.in-Certify.is) (λ none. none form found)
+    (record {
+      answered = e.answered;
+      ended = e.ended;
+      at_fault = e.at_fault;
+      fault = e.fault;
+      errors = e.errors;
+      surely = λ free fs room over there.
+          e.surely free fs (subst (g.S.Shelf.sure c.args.shelf.now) (three free) room) over there.0 there.1;
+    })
+
+pub returns-in-OfCatalogue-clause-untouched : goal.returns-in-OfCatalogue-clause-untouched
+returns-in-OfCatalogue-clause-untouched g c = λ none. absurd (none (form_of c.in-Some.asked) c.in-Some.ensures.found)
+
+pub returns-in-Certify-clause-untouched : goal.returns-in-Certify-clause-untouched
+returns-in-Certify-clause-untouched g c = λ none. absurd (none (form_of c.in-Some.asked) c.in-Some.ensures.found)

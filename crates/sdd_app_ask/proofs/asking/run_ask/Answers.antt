@@ -1,7 +1,7 @@
 use Rattle.std.proofs.Common.{map, string_bytes}
 use Rattle.sdd_shell.proofs.Calls.{ends_as}
-use Rattle.sdd_app_ask.specs.Asking.{ask_call}
-use Rattle.sdd_app_ask.proofs.Forms.{ask_decided}
+use Rattle.sdd_app_ask.specs.Calls.{ask_call}
+use Rattle.sdd_app_ask.proofs.Verdicts.{ask_decided}
 use Rattle.sdd_app_ask.proofs.asking.run_ask.Goals as goal
 
 pub returns-clause-ends : goal.returns-clause-ends

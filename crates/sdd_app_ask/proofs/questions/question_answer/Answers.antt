@@ -3,8 +3,8 @@ use Rattle.sdd_shell.specs.NamedFiles.{BlamesCatalogue, OverCatalogue, catalogue
 use Rattle.sdd_shell.specs.Verdict.{Prints}
 use Rattle.sdd_shell.proofs.Verdicts.{explains_more, blamed, goes_on, one_ended}
 use Rattle.sdd_shell.proofs.AtFault.{at_more}
-use Rattle.sdd_app_ask.specs.Asking.{ComesToAnswer}
-use Rattle.sdd_app_ask.proofs.asking.question_answer.Goals as goal
+use Rattle.sdd_app_ask.specs.Answer.{ComesToAnswer}
+use Rattle.sdd_app_ask.proofs.questions.question_answer.Goals as goal
 
 pub returns-in_err-catalogue-clause-answered : goal.returns-in_err-catalogue-clause-answered
 returns-in_err-catalogue-clause-answered g c = λ fs known.
