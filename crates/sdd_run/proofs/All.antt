@@ -19,7 +19,7 @@ pub use Rattle.std.proofs.lemmas.Simd.{map-map}
 pub use Rattle.sdd_obligations.proofs.catalog.Sound.{sound_whole}
 pub use Rattle.sdd_obligations.proofs.class_eras.EraOfWhole.{era_of_whole}
 pub use Rattle.sdd_obligations.proofs.class_eras.EraSets.{era_of_itself}
-pub use Rattle.sdd_obligations.proofs.invariants.Bools.{and_left, not_both, not_zero, same_number, same_or_not}
+pub use Rattle.sdd_obligations.proofs.invariants.Bools.{and_left, and_right, differ, not_both, not_zero, same_number, same_or_not, true_or_false}
 pub use Rattle.sdd_obligations.proofs.invariants.Fair.{home_fair}
 pub use Rattle.sdd_obligations.proofs.invariants.Holding.{none_of as no_active}
 pub use Rattle.sdd_obligations.proofs.invariants.Lists.{at_seam, in_filtered, in_range}
@@ -43,6 +43,11 @@ pub use Rattle.sdd_obligations.proofs.net.Lists.{All-at}
 pub use Rattle.sdd_obligations.proofs.protocol.Laws.{one_table}
 pub use Rattle.sdd_obligations.proofs.serial_orders.Places.{same_start}
 pub use Rattle.sdd_obligations.proofs.serial_orders.Serial.{serial_order_is}
+pub use Rattle.sdd_obligations.proofs.Conditions.{AllWithin, act_within}
+pub use Rattle.sdd_obligations.proofs.invariants.AreReadSteps.{class_in_view}
+pub use Rattle.sdd_obligations.proofs.invariants.Installed.{head_put}
+pub use Rattle.sdd_obligations.proofs.invariants.Answered.{of_attempt, read_of}
+pub use Rattle.sdd_obligations.proofs.Modules.{firsts, to_module}
 pub use Rattle.sdd_obligations.specs.needs.AfterEvents.{down_from}
 pub use Rattle.sdd_obligations.specs.All.{Act, AllFewTicks, Answer, AreAllApplied, AreSubmittedOnce, Catalogue, Class, ClassNo, ClassState, Commit, Committed, Cond, Condition, D, Deliver, DmNo, Does, Down, EndsByLimit, Era, Eras, Event, FitsCondition, FitsInput, FitsStart, FitsStatement, FragNo, Hand, HasCommit, History, Input, IsAttempt, IsAwaited, IsClass, IsClassOf, IsCommitted, IsDatabase, IsEra, IsEraOf, IsGood, IsHeld, IsLawful, IsModule, IsOrderable, IsPermitted, IsPossible, IsRecordAt, IsSerial, IsSoundCatalogue, IsSubmitted, IsTable, IsTheLog, KeepsStarts, Kept, Log, Lose, MAX_DMS, MAX_TMS, Mark, Msg, Notes, Nothing, PutsHeld, Queued, Read, Rec, Records, Redeclare, Redeclares, Reject, RelNo, Repeat, Reply, Resend, Rests, Round, Row, Setting, Settle, Site, Standing, Stmt, Submitted, T, Tick, TmCounts, Ts, Txn, TxnNo, U, Up, Use, Wait, active, after_mark, all_links, are_linked, attempt_due, attempt_of, base_of, by_event, by_mark, calls_of, class_at, class_no, committed, contains, contents, counts, database_of, dated, dm_no, due_by, event_at, hand_due, hand_on, has_copy, head, head_of, history, home, is_apply, is_empty, is_link, is_over, is_site, last_served, left, link_of, local_of, mark_from, mark_of, marks, next, next_at, note_if, nth_era, numbers_to, one_if, pipe_at, placed, queue, quiet, redeclares, redeclares_in, rows_of, run, runs, send_due, setting_of, site_due, standing_among, standing_in, submits_in, time_at, tm_no, turn_at, txn_at, txn_no, with_event}
 pub use Rattle.sdd_obligations.specs.Bounds.{IsSmall}
@@ -53,7 +58,7 @@ pub use Rattle.sdd_obligations.specs.attempt.Standings.{lower, lowest, or_standi
 pub use Rattle.sdd_obligations.specs.base.declared.limits.TheConstants.{MAX_TICKS}
 pub use Rattle.sdd_obligations.specs.copy.Contents.{Dated}
 pub use Rattle.sdd_obligations.specs.dm.State.{State}
-pub use Rattle.sdd_obligations.specs.dm.Waiting.{waiting_at}
+pub use Rattle.sdd_obligations.specs.dm.Waiting.{conds_of, waiting_at}
 pub use Rattle.sdd_obligations.specs.history.declared.record.Rec.TheVariants.{Submit}
 pub use Rattle.sdd_obligations.specs.lang.Database.{Item}
 pub use Rattle.sdd_obligations.specs.lang.declared.assign.Assign.{Assign}
@@ -70,6 +75,12 @@ pub use Rattle.sdd_obligations.specs.serial_orders.Precedence.{precedes}
 pub use Rattle.sdd_obligations.specs.serial_orders.SerialOrder.{serial_order}
 pub use Rattle.sdd_obligations.specs.tm.State.{class_of}
 pub use Rattle.sdd_obligations.specs.umod.Steps.{tm_of}
+pub use Rattle.sdd_obligations.specs.dm.Views.{ClassView, View, view_of}
+pub use Rattle.sdd_obligations.specs.dm.Due.{is_met}
+pub use Rattle.sdd_obligations.specs.pipe.Pipe.{passed}
+pub use Rattle.sdd_obligations.specs.dm.Pipes.{pipe, waits}
+pub use Rattle.sdd_obligations.specs.attempt.Exchange.{Exchange}
+pub use Rattle.sdd_obligations.specs.Turns.{Turn}
 pub use Rattle.sdd_progress.proofs.AtRest.{commit_there, rest}
 pub use Rattle.sdd_progress.proofs.Committed.{IsQueued, any_commit, committed_or_queued}
 pub use Rattle.sdd_progress.proofs.Copies.{applied_at_copies}
@@ -77,7 +88,7 @@ pub use Rattle.sdd_progress.proofs.ErasOf.{are_eras_of, marks_up as marks_later}
 pub use Rattle.sdd_progress.proofs.Fronts.{history_le, recorded_front, redeclare_between}
 pub use Rattle.sdd_progress.proofs.IdleAtRedeclares.{at_redeclare}
 pub use Rattle.sdd_progress.proofs.Known.{Known, known}
-pub use Rattle.sdd_progress.proofs.Lacking.{goes_on, near_one}
+pub use Rattle.sdd_progress.proofs.Lacking.{goes_on, near_one, no_sends}
 pub use Rattle.sdd_progress.proofs.Lists.{all_true, either, if_none, kept_there, none_at}
 pub use Rattle.sdd_progress.proofs.NoRejects.{all_served}
 pub use Rattle.sdd_progress.proofs.OfLogs.{few_in_limit, few_rejected}
@@ -97,13 +108,14 @@ pub use Rattle.sdd_progress.proofs.lawful.SameCopies.{same_copy}
 pub use Rattle.sdd_progress.proofs.lawful.Submissions.{given_at, one_submit, submit_in}
 pub use Rattle.sdd_progress.proofs.lawful.Together.{copies as left_in_copies, replies}
 pub use Rattle.sdd_progress.proofs.ClassSites.{in_runs}
-pub use Rattle.sdd_progress.proofs.EventOver.{none_due, over_at_end, over_before}
+pub use Rattle.sdd_progress.proofs.EventOver.{none_at_data, none_due, over_at_end, over_before}
 pub use Rattle.sdd_progress.proofs.FreeClasses.{never_rejected, never_waits}
 pub use Rattle.sdd_progress.proofs.OfLawful.{answered_by_end}
 pub use Rattle.sdd_progress.proofs.Rejected.{rejected}
 pub use Rattle.sdd_progress.proofs.Waited.{wait_due}
 pub use Rattle.sdd_progress.proofs.Marked.{next_is_of_events}
 pub use Rattle.sdd_progress.proofs.QuietAfter.{quiet_at_last}
+pub use Rattle.sdd_progress.proofs.StuckHeads.{head_stuck}
 pub use Rattle.sdd_progress.specs.Committed.{AllCommitted, IsNotLeft, WasCommitted}
 pub use Rattle.sdd_progress.specs.Eras.{eras_of}
 pub use Rattle.sdd_progress.specs.Few.{AreFewRejected}
@@ -116,8 +128,9 @@ pub use Rattle.sdd_progress.specs.Answers.{EndsAnEvent, IsAnsweredIn, IsEventOve
 pub use Rattle.sdd_progress.specs.Free.{IsFree, IsFreeClass}
 pub use Rattle.sdd_progress.specs.Rejections.{IsRejectOf}
 pub use Rattle.sdd_progress.specs.Waited.{IsWaitOf}
+pub use Rattle.sdd_progress.specs.Heads.{IsStuck}
 pub use Rattle.sdd_report.specs.Committed.{ReportedCommit, is_of, names_of, order_line, reply_of, reported_in, reported_of}
-pub use Rattle.sdd_report.specs.Pending.{is_lower}
+pub use Rattle.sdd_report.specs.Pending.{is_lower, under_way}
 pub use Rattle.sdd_report.specs.Replies.{replies_along}
 pub use Rattle.sdd_report.specs.Report.{Report, after_replies, report_text}
 pub use Rattle.sdd_report.specs.Trace.{trace}
@@ -128,9 +141,10 @@ pub use Rattle.sdd_report.specs.declared.pending.Why.{Why}
 pub use Rattle.sdd_run.specs.Clocks.{HasLowClocks}
 pub use Rattle.sdd_run.specs.Free.{IsAnsweredWithin, IsUndisturbed}
 pub use Rattle.sdd_run.specs.Lent.{era_of_list}
-pub use Rattle.sdd_run.specs.Reasons.{IsNumberedSite, IsReason, IsStanding}
+pub use Rattle.sdd_run.specs.Reasons.{IsFirstUnmet, IsInLine, IsTruePending, IsTrueReason, IsUnderway, ReadWaits, WaitsForHeld, attempt_at, counts_at_u, has_passed_at, in_line, is_asking_to_hold, is_unanswered, lacks_answer_of, queue_at_home, without_served}
 pub use Rattle.sdd_run.specs.Reports.{report_by, report_of}
 pub use Rattle.sdd_run.specs.Runs.{AreTables, EndsAtLimit, IsFreeInEach, IsReportOn, IsSummaryOn, eras_with_tables, first_input, input_of, order_of, plain_run}
+pub use Rattle.sdd_run.specs.Standings.{IsNumberedSite, IsStanding}
 pub use Rattle.sdd_run.specs.Settled.{EndsAtRest, EndsQuiet, IsAtRest, LosesNothing, NoneIsDown, TellsAllCommitted}
 pub use Rattle.sdd_run.specs.ComesBefore.{ComesBefore, IsSubmittedBefore, times_in, times_pending}
 pub use Rattle.sdd_run.specs.Worlds.{IsRunOf}
@@ -144,7 +158,7 @@ pub use Rattle.sdd_world.proofs.Turning.{t_site as within}
 pub use Rattle.sdd_world.specs.AtSites.{standing_at}
 pub use Rattle.sdd_world.specs.Beginnings.{AllBegin, BeginsD, IsBegun, There}
 pub use Rattle.sdd_world.specs.Copies.{rows_left, table_of, tables_at, tables_of}
-pub use Rattle.sdd_world.specs.Pending.{AreAtLastHomes, Homes, IsListed, Telling, commits, last_home, pending_as, pending_at, pending_by, pending_of, reason_of, submitted_at, unmet, wait_at, waits_of, why_of}
+pub use Rattle.sdd_world.specs.Pending.{AreAtLastHomes, Homes, IsListed, Telling, commits, last_home, pending_as, pending_at, pending_by, pending_of, reason_of, status_at, submitted_at, unmet, wait_at, wait_for, waits_of, why_of}
 pub use Rattle.sdd_world.specs.Schedules.{AreAllowed, lists_after, takes_rounds, with_events}
 pub use Rattle.sdd_world.specs.Represents.{EndsBy, Represents}
 pub use Rattle.sdd_world.specs.Standings.{standing_at_t, standing_at_u}
@@ -160,5 +174,7 @@ pub use Rattle.std.proofs.lemmas.List.FromFn.{get_or-map-range_with_len}
 pub use Rattle.std.proofs.lemmas.List.Sums.{sum_by-cons}
 pub use Rattle.std.proofs.lemmas.Option.{slice_get-get_or, slice_get_past}
 pub use Rattle.std.proofs.lemmas.Slice.Zip.{AllZip-long}
-pub use Rattle.std.specs.List.{AllZip, best_of, cons_option, list_all, list_any}
+pub use Rattle.std.proofs.lemmas.Bool.Decides.{nat_tests}
+pub use Rattle.std.proofs.lemmas.List.Quantifiers.{position-Some}
+pub use Rattle.std.specs.List.{AllByRecursion, AllZip, best_of, cons_option, list_all, list_any, range_with_len}
 pub use Rattle.std.specs.Option.{option_map_or}

@@ -30,6 +30,8 @@ pub mod Lossless
 pub mod LowClocks
 pub mod FreeAttempts
 pub mod FreeAnswered
+pub mod Lowest
+pub mod ReadsThatWait
 pub mod Standings
 pub mod Reasons
 pub use Rattle.sdd_script.proofs as script

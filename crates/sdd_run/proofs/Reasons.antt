@@ -1,48 +1,104 @@
--- Each pending transaction is reported to wait for something that is there, and never for a message of U.
-use Rattle.sdd_run.proofs.All.{Bool, Catalogue, Contains, Contains-from_filter_map, FitsInput, History, Input, IsModule, IsPermitted, IsReason, IsStanding, List, Log, None, Option, Pending, Rec, Some, Standing, Waiting, Why, [], arith, best_of, cond, cons_option, false, filter_map, history, if◌then◌else◌, in_range, is_lower, list_any, numbers_to, pending_by, pending_of, reason_of, refl, site_due, slice_get, standing_at, standing_at_t, standing_at_u, submitted_at, suc, true, wait_at, waits_of, why_of, ℕ, ◌∷◌, ◌≡◌}
-use Rattle.sdd_run.proofs.Standings.{each_is_standing}
+-- What is listed as pending was submitted, isn't committed, and waits for what is said of it.
+use Rattle.sdd_run.proofs.All.{Contains, Contains-from_filter_map, D, FitsInput, Input, IsPermitted, IsTruePending, IsTrueReason, IsUnderway, Log, None, Option, Pending, Rec, Some, Standing, Submit, TxnNo, Waiting, Why, [], any_commit, ap, arith, commits, dm_no, false, history, if◌then◌else◌, list_any, not_both, option_map, pending_as, pending_by, pending_of, reason_of, refl, same_number, site_due, slice_get-get_or, standing_at, standing_at_t, standing_at_u, status_at, submitted_at, subst, sym, true, under_way, wait_at, waits_of, why_of, ℕ, ◌+◌, ◌<◌, ◌∙◌, ◌∷◌, ◌≡◌}
+use Rattle.sdd_obligations.specs.All.{Attempt}
 use Rattle.sdd_obligations.specs.attempt.declared.standing.Standing.TheVariants as standings
 use Rattle.sdd_report.specs.declared.pending.Why.TheVariants as reasons
+use Rattle.sdd_run.proofs.Lowest.{best_is_first, least_wait, none_waits}
+use Rattle.sdd_run.proofs.ReadsThatWait.{at_own_module, its_wait, waits_not}
+use Rattle.sdd_run.proofs.Standings.{IsTrueStanding, LacksAnswer, each_is_true}
 
--- READs that wait are at data modules
+module _ (g : Input) (log : Log) (permitted : IsPermitted g log) (good : FitsInput g) (idle : site_due g log ≡ None) where
+  -- an attempt that is under way waits where its READ waits at the lowest module, or else lacks the answer of the lowest
+  underway_true : (n c d : ℕ) (a : Attempt) → IsUnderway g log n c a → LacksAnswer g log c a d
+      → IsTrueReason g log n (under_way (D (dm_no d)) (waits_of g log c a.ts))
+  underway_true n c d a u lacks =
+      let f : ℕ → Option Waiting = wait_at g log c a.ts in
+      elim (waits_of g log c a.ts) as (λ ws. waits_of g log c a.ts ≡ ws → IsTrueReason g log n (under_way (D (dm_no d)) ws)) [
+        | [] ↦ λ e. (
+          c,
+          a,
+          u,
+          record {
+            module_is = lacks.module_is;
+            missing = lacks.missing;
+            lowest = lacks.none_lower;
+            no_read_waits = λ k conds l m r.
+                let to : k < 1 + g.catalogue.dms = omega (arith, m) in
+                waits_not g log permitted c a u.active_is k conds u.class_is (l, omega (arith, m)) idle (none_waits f 1 g.catalogue.dms e k l to) r;
+          },
+        )
+        | w ∷ ws ↦ λ e.
+            let i = least_wait f 1 g.catalogue.dms w ws (at_own_module g log c a.ts) e in
+            let own = its_wait g log permitted c a u.active_is w.dm.0 w i.is in
+            let low = i.from in
+            let high = i.to in
+            let is = own.is in
+            subst (λ x. IsTrueReason g log n (reasons.Waits x)) (sym (best_is_first w ws i.others)) (
+              c,
+              a,
+              u,
+              record {
+                module_is = (low, omega (arith, high));
+                conds = own.conds;
+                read = own.read;
+                cond = own.cond;
+                first = own.first;
+                class_is = ap (λ (x : Waiting). x.class) (sym is);
+                time_is = ap (λ (x : Waiting). x.time) (sym is);
+                lowest = λ k conds l m r.
+                    waits_not g log permitted c a u.active_is k conds u.class_is (l, omega (arith, m, high)) idle (i.none_lower k l m) r;
+              },
+            )
+      ] refl
 
-abbrev AreAtModules : Catalogue → List Waiting → Type 0
-AreAtModules cat [] = Unit {0}
-AreAtModules cat (w ∷ ws) = IsModule cat w.dm.0 × AreAtModules cat ws
+  true_reason : (n : ℕ) (s : Standing) (w : Why) → IsTrueStanding g log n s → why_of g log s ≡ Some w → IsTrueReason g log n w
+  true_reason n standings.Absent w h e = cc
+  true_reason n (standings.Queued class place) w h e =
+      let same : reasons.Queued class place ≡ w = cc in
+      subst (IsTrueReason g log n) same h
+  true_reason n (standings.Underway class None at) w h e =
+      let same : reasons.Underway at ≡ w = cc in
+      subst (IsTrueReason g log n) (ap reasons.Underway (sym h.1) ∙ same) h.2
+  true_reason n (standings.Underway class (Some ts) at) w h e =
+      let same : under_way at (waits_of g log class.0 ts.0) ≡ w = cc in
+      let site_is = h.2 in
+      let time_is = h.4 in
+      subst (IsTrueReason g log n) ((λ i. under_way (sym site_is i) (waits_of g log class.0 (sym time_is i))) ∙ same)
+      (underway_true n class.0 h.1 h.0 h.3 h.5)
 
-found_at_modules : (cat : Catalogue) (f : ℕ → Option Waiting) (dms : List ℕ)
-    → ((k d : ℕ) → slice_get dms k ≡ Some d → (w : Waiting) → f d ≡ Some w → IsModule cat w.dm.0) → AreAtModules cat (filter_map f dms)
-found_at_modules cat f [] h = tt
-found_at_modules cat f (d ∷ dms) h =
-    let rest = found_at_modules cat f dms (λ k x e. h (suc k) x e) in
-    elim (f d) as (λ o. f d ≡ o → AreAtModules cat (cons_option o (filter_map f dms))) [ None ↦ λ e. rest | Some w ↦ λ e. (h 0 d refl w e, rest) ] refl
+  -- what is listed is of a submission
 
-waits_at_modules : (g : Input) (log : Log) (c t : ℕ) → AreAtModules g.catalogue (waits_of g log c t)
-waits_at_modules g log c t =
-    found_at_modules g.catalogue (wait_at g log c t) (numbers_to g.catalogue.dms) (grind (arith, in_range))
+  record IsListedFor (x : ℕ × Rec) (one : Pending) : Type 0 where
+    submission : x.1 ≡ Submit one.txn
+    uncommitted : list_any (commits one.txn.0) (history log) ≡ false
+    reason : reason_of (standing_at standing_at_u standing_at_t) (submitted_at log) g log one.txn.0 ≡ Some one.why
 
-best_at_module : (cat : Catalogue) (w : Waiting) (ws : List Waiting) → IsModule cat w.dm.0 → AreAtModules cat ws → IsModule cat (best_of is_lower w ws).dm.0
-best_at_module cat w [] m all = m
-best_at_module cat w (x ∷ ws) m all = grind (arith, (best_at_module cat (cond (is_lower x w) x w) ws (elim (is_lower x w) as (λ b. IsModule cat (cond b x w).dm.0) [ true ↦ all.0 | false ↦ m ]) all.1))
+  listed_with : (event : ℕ) (n : TxnNo) (one : Pending) (o : Option Why) → reason_of (standing_at standing_at_u standing_at_t) (submitted_at log) g log n.0 ≡ o
+      → list_any (commits n.0) (history log) ≡ false → pending_as n o ≡ Some one → IsListedFor (event, Submit n) one
+  listed_with event n one None r u e = cc
+  listed_with event n one (Some why) r u e =
+      let same : record { txn = n; why = why } ≡ one = cc in
+      subst (IsListedFor (event, Submit n)) same (record { submission = refl; uncommitted = u; reason = r })
 
--- how a transaction stands gives such a reason
+  listed_for : (x : ℕ × Rec) (one : Pending)
+      → pending_by (standing_at standing_at_u standing_at_t) (submitted_at log) g log (history log) x ≡ Some one → IsListedFor x one
+  listed_for (event, Submit n) one e =
+      let why = reason_of (standing_at standing_at_u standing_at_t) (submitted_at log) g log n.0 in
+      elim (list_any (commits n.0) (history log)) as (λ b. list_any (commits n.0) (history log) ≡ b → (if b then None else pending_as n why) ≡ Some one
+      → IsListedFor (event, Submit n) one) [ true ↦ λ p q. cc | false ↦ λ p q. listed_with event n one why refl p q ] refl e
+  listed_for (event, _) one e = cc
 
-why_is_reason : (g : Input) (log : Log) (s : Standing) (w : Why) → IsStanding g.catalogue s → why_of g log s ≡ Some w → IsReason g.catalogue w
-why_is_reason g log s w h e = grind (arith, best_at_module, waits_at_modules)
-
--- and what is pending has one
-
-if_pending : (b : Bool) (o : Option Pending) (one : Pending) → (if b then None else o) ≡ Some one → o ≡ Some one
-if_pending b o one e = grind arith
-
-pending_reason : (g : Input) (log : Log) (all : History) (x : ℕ × Rec) (one : Pending)
-    → pending_by (standing_at standing_at_u standing_at_t) (submitted_at log) g log all x ≡ Some one
-    → (n : ℕ) × (reason_of (standing_at standing_at_u standing_at_t) (submitted_at log) g log n ≡ Some one.why)
-pending_reason g log all x one e = grind (arith, if_pending, list_any)
-
-pub reasons_are : (g : Input) (log : Log) → IsPermitted g log → FitsInput g → site_due g log ≡ None
-    → (one : Pending) → Contains (pending_of (standing_at standing_at_u standing_at_t) g log) one → IsReason g.catalogue one.why
-reasons_are g log permitted good idle one there =
-    let x = Contains-from_filter_map (pending_by (standing_at standing_at_u standing_at_t) (submitted_at log) g log (history log)) (history log) one there in
-    let r = pending_reason g log (history log) x.0 one x.2 in
-    why_is_reason g log _ one.why (each_is_standing g log permitted good idle (submitted_at log r.0) r.0) r.1
+  pub pending_are_true : (one : Pending) → Contains (pending_of (standing_at standing_at_u standing_at_t) g log) one → IsTruePending g log one
+  pending_are_true one there =
+      let x = Contains-from_filter_map (pending_by (standing_at standing_at_u standing_at_t) (submitted_at log) g log (history log)) (history log) one there in
+      let f = listed_for x.0 one x.2 in
+      let place = x.1 in
+      let n : ℕ = one.txn.0 in
+      record {
+        place = place.0;
+        submitted = ap (option_map (λ (y : ℕ × Rec). y.1)) (slice_get-get_or (history log) place.0 x.0 place.1 ∙ ap Some place.2) ∙ ap Some f.submission;
+        uncommitted = λ w. not_both (list_any (commits n) (history log))
+            (any_commit (history log) (commits n) n (λ event attempt reply changes values rows. same_number n) w) f.uncommitted;
+        reason = true_reason n (status_at (standing_at standing_at_u standing_at_t) g log (submitted_at log n) n) one.why
+            (each_is_true g log permitted good idle (submitted_at log n) n) f.reason;
+      }

@@ -5,8 +5,10 @@ pub mod Reasons
 pub mod Reports
 pub mod Runs
 pub mod ComesBefore
+pub mod WorkedReasons
 pub mod Worlds
 pub mod Settled
+pub mod Standings
 pub use Rattle.sdd_script.specs as script
 pub use Rattle.sdd_lists.specs as class_lists
 pub use Rattle.sdd_report.specs as report

@@ -1,37 +1,142 @@
--- What a pending transaction may be reported to wait for.
-use Rattle.std.specs.Prelude.{◌≡◌, ◌≤◌, ◌∷◌, [], Some, refl}
-use Rattle.sdd_obligations.specs.All.{Catalogue, D, IsClass, IsFrom1To, IsModule, Log, Site, Standing, Submit, T, U, class_no, dm_no, extended, local_of, setting_of, time_at, tm_no, txn_no}
-use Rattle.sdd_obligations.specs.attempt.declared.standing.Standing.TheVariants as standings
+-- What is listed as pending, said of the log alone: transactions that were submitted and aren't committed, and what each of
+-- them waits for. How the lines are made isn't said here.
+use Rattle.std.specs.Prelude.{ℕ, suc, ◌-◌, ◌==◌, ◌≡◌, ◌<◌, ◌≤◌, ◌++◌, ◌∷◌, Bool, true, false, not, ◌&&◌, if◌then◌else◌, List, filter, map, slice_get, Option, Some, None}
+use Rattle.std.specs.List.{AllByRecursion, list_any}
+use Rattle.sdd_obligations.specs.All.{Asks, Attempt, Cond, D, Input, IsClass, IsFrom1To, IsModule, IsSubmitted, Log, Queued, Read, T, TmCounts, Turn, U, Use, active, class_no, counts, head, head_of, history, home, last_served, local_of, numbers_to, passed, pipe, queue, setting_of, time_at, turn_at, txn_no, waits}
+use Rattle.sdd_obligations.specs.Turns.{Refused, Replied, Silent}
+use Rattle.sdd_obligations.specs.base.Words.{tail_of}
+use Rattle.sdd_report.specs.declared.pending.Pending.{Pending}
+use Rattle.sdd_report.specs.declared.pending.Waiting.{Waiting}
 use Rattle.sdd_report.specs.declared.pending.Why.{Why}
-use Rattle.sdd_report.specs.declared.pending.Why.TheVariants.{Queued, Underway, Waits}
-use Rattle.sdd_progress.specs.Examples.{crossing_with}
-use Rattle.sdd_world.specs.Standings.{standing_of}
+use Rattle.sdd_report.specs.declared.pending.Why.TheVariants.{Queued as InQueue, Underway, Waits}
+use Rattle.sdd_progress.specs.Committed.{WasCommitted}
+use Rattle.sdd_progress.specs.Quiet.{at_home, at_module}
 
--- a transaction or data module of the catalogue: a site other than U
-abbrev pub IsNumberedSite : Catalogue → Site → Type 0
-IsNumberedSite cat U = ⊥
-IsNumberedSite cat (T t) = IsFrom1To cat.tms t.0
-IsNumberedSite cat (D d) = IsModule cat d.0
+-- the queue of a class
 
--- its turn in a class, at a place from 1; a class at a data module; or a message of a site, never of U
-abbrev pub IsReason : Catalogue → Why → Type 0
-IsReason cat (Queued class place) = IsClass cat class.0 × (1 ≤ place)
-IsReason cat (Waits waiting) = IsModule cat waiting.dm.0
-IsReason cat (Underway at) = IsNumberedSite cat at
+-- the attempt of class c that is under way
+abbrev pub attempt_at : Input → Log → ℕ → Option Attempt
+attempt_at g log c = active (setting_of g (home g.catalogue c)) c (at_home g c log)
 
--- the same of how a site has a transaction
-abbrev pub IsStanding : Catalogue → Standing → Type 0
-IsStanding cat standings.Absent = Unit {0}
-IsStanding cat (standings.Queued class place) = IsClass cat class.0 × (1 ≤ place)
-IsStanding cat (standings.Underway class ts at) = IsNumberedSite cat at
+-- the transactions of the class that were submitted and aren't committed, in the order of their submission
+abbrev pub queue_at_home : Input → Log → ℕ → List Queued
+queue_at_home g log c = queue (setting_of g (home g.catalogue c)) c (at_home g c log)
 
--- worked: a query has begun, and lacks the answer of the data module
+-- how many undeclared transactions are committed
+abbrev pub commits_at_u : Input → Log → ℕ
+commits_at_u g log = (last_served (setting_of g U) (local_of g U log)).commits
 
-abbrev begun : Log
-begun = extended 3 (crossing_with (Submit (txn_no 1) ∷ [])) []
+-- how many HOLDs U sent to T t, and how many HELDs were handed to U from there
+abbrev pub counts_at_u : Input → Log → ℕ → TmCounts
+counts_at_u g log t = counts t (local_of g U log)
 
-pub lacks_answer
-    : standing_of (T (tm_no 1)) (setting_of (crossing_with (Submit (txn_no 1) ∷ [])) (T (tm_no 1)))
-    (local_of (crossing_with (Submit (txn_no 1) ∷ [])) (T (tm_no 1)) begun) 1
-    ≡ standings.Underway (class_no 1) (Some (time_at 65)) (D (dm_no 1))
-lacks_answer = refl
+-- U serves the first transaction in its queue from its first HOLD on: of some T there is one HOLD more than there are Commits
+abbrev pub is_asking_to_hold : Input → Log → Bool
+is_asking_to_hold g log =
+    list_any (λ (k : TmCounts). k.holds == suc (commits_at_u g log)) (map (counts_at_u g log) (numbers_to g.catalogue.tms))
+
+-- the transactions whose turn is still to come: all in the queue but the one that is being served
+abbrev pub without_served : Option Attempt → Bool → List Queued → List Queued
+without_served (Some a) held queue = filter (λ (q : Queued). not (q.number == a.txn)) queue
+without_served None held queue = if held then tail_of queue else queue
+
+abbrev pub in_line : Input → Log → ℕ → List Queued
+in_line g log c = without_served (attempt_at g log c) ((c == 0) && is_asking_to_hold g log) (queue_at_home g log c)
+
+-- transaction n is the one at this place of them, from 1
+pub record IsInLine (g : Input) (log : Log) (c place n : ℕ) : Type 0 where
+  pub class_is : IsClass g.catalogue c
+  pub from : 1 ≤ place
+  pub waiting : Queued
+  pub there : slice_get (in_line g log c) (place - 1) ≡ Some waiting
+  pub number_is : waiting.number ≡ n
+
+-- transaction n has the attempt of class c that is under way
+pub record IsUnderway (g : Input) (log : Log) (n c : ℕ) (a : Attempt) : Type 0 where
+  pub class_is : IsClass g.catalogue c
+  pub active_is : attempt_at g log c ≡ Some a
+  pub number_is : a.txn ≡ n
+
+-- a READ that waits
+
+-- The READ of the attempt, with these conditions, waits at module d: it is the first message of its class there that isn't
+-- processed, and has a Wait.
+pub record ReadWaits (g : Input) (log : Log) (c : ℕ) (a : Attempt) (d : ℕ) (conds : List Cond) : Type 0 where
+  pub uses : List Use
+  pub head_is : head (pipe c (at_module g d log)) ≡ Some (Read (time_at a.ts) (class_no c) (txn_no a.txn) a.attempt conds uses)
+  pub has_wait : waits c (at_module g d log) ≡ true
+
+-- it waits at no module from 1 to below this number
+abbrev pub WaitsAtNoneBelow : Input → Log → ℕ → Attempt → ℕ → Type 0
+WaitsAtNoneBelow g log c a n = (d : ℕ) (conds : List Cond) → 1 ≤ d → d < n → ReadWaits g log c a d conds → ⊥
+
+-- at module d the class of a condition has passed its time
+abbrev pub has_passed_at : Input → Log → ℕ → Cond → Bool
+has_passed_at g log d x = passed (pipe x.class.0 (at_module g d log)) x.time.0
+
+-- of these conditions the first whose class hasn't
+pub record IsFirstUnmet (g : Input) (log : Log) (d : ℕ) (conds : List Cond) (x : Cond) : Type 0 where
+  pub before : List Cond
+  pub after : List Cond
+  pub conds_are : conds ≡ before ++ x ∷ after
+  pub met : AllByRecursion (λ y. has_passed_at g log d y ≡ true) before
+  pub unmet : has_passed_at g log d x ≡ false
+
+-- the attempt waits for a class at a module, the lowest at which its READ waits
+pub record WaitsForClass (g : Input) (log : Log) (c : ℕ) (a : Attempt) (w : Waiting) : Type 0 where
+  pub module_is : IsModule g.catalogue w.dm.0
+  pub conds : List Cond
+  pub read : ReadWaits g log c a w.dm.0 conds
+  pub cond : Cond
+  pub first : IsFirstUnmet g log w.dm.0 conds cond
+  pub class_is : w.class ≡ cond.class
+  pub time_is : w.time ≡ cond.time
+  pub lowest : WaitsAtNoneBelow g log c a w.dm.0
+
+-- a message that is missing
+
+-- the last question has no answer yet
+abbrev pub is_unanswered : Turn → Bool
+is_unanswered Silent = false
+is_unanswered (Asks uses question) = true
+is_unanswered (Replied uses question) = false
+is_unanswered Refused = false
+
+-- the attempt's site has put a READ, FETCH, REDUCE or SHIP of it for module d to which no answer was handed
+abbrev pub lacks_answer_of : Input → Log → ℕ → Attempt → ℕ → Bool
+lacks_answer_of g log c a d = is_unanswered (turn_at a.ts c d (at_home g c log))
+
+-- the attempt waits for an answer of module d, the lowest whose answer is missing, and its READ waits at no module
+pub record WaitsForAnswer (g : Input) (log : Log) (c : ℕ) (a : Attempt) (d : ℕ) : Type 0 where
+  pub module_is : IsModule g.catalogue d
+  pub missing : lacks_answer_of g log c a d ≡ true
+  pub lowest : (e : ℕ) → e < d → lacks_answer_of g log c a e ≡ false
+  pub no_read_waits : WaitsAtNoneBelow g log c a (suc g.catalogue.dms)
+
+-- U serves transaction n, the first in its queue, and hasn't started it: it waits for a HELD of T t, the lowest of those that
+-- haven't said HELD once more than there are Commits
+pub record WaitsForHeld (g : Input) (log : Log) (n t : ℕ) : Type 0 where
+  pub tm_is : IsFrom1To g.catalogue.tms t
+  pub not_started : attempt_at g log 0 ≡ None
+  pub is_asked : is_asking_to_hold g log ≡ true
+  pub first : Queued
+  pub first_is : head_of (queue_at_home g log 0) ≡ Some first
+  pub number_is : first.number ≡ n
+  pub missing : (counts_at_u g log t).helds < suc (commits_at_u g log)
+  pub lowest : (s : ℕ) → 1 ≤ s → s < t → (counts_at_u g log s).helds ≡ suc (commits_at_u g log)
+
+-- why transaction n is pending: a place in the line of a class; a class at a data module; a message of a T, which is a
+-- HELD, or of a data module; never one of U
+abbrev pub IsTrueReason : Input → Log → ℕ → Why → Type 0
+IsTrueReason g log n (InQueue class place) = IsInLine g log class.0 place n
+IsTrueReason g log n (Waits w) = (c : ℕ) × (a : Attempt) × IsUnderway g log n c a × WaitsForClass g log c a w
+IsTrueReason g log n (Underway U) = ⊥
+IsTrueReason g log n (Underway (T t)) = WaitsForHeld g log n t.0
+IsTrueReason g log n (Underway (D d)) = (c : ℕ) × (a : Attempt) × IsUnderway g log n c a × WaitsForAnswer g log c a d.0
+
+-- what is listed was submitted, isn't committed, and waits for what is said
+pub record IsTruePending (g : Input) (log : Log) (one : Pending) : Type 0 where
+  pub place : ℕ
+  pub submitted : IsSubmitted (history log) one.txn.0 place
+  pub uncommitted : WasCommitted (history log) one.txn.0 → ⊥
+  pub reason : IsTrueReason g log one.txn.0 one.why
