@@ -62,6 +62,11 @@ async function allOf(promises) {
   return ended.map(x => x.value);
 }
 
+// The data modules at which a class reads.
+function readingModules({reads = []}) {
+  return [...new Set(reads.map(x => x.at))].sort((a, b) => a - b).map(n => "D" + n);
+}
+
 // What a page shows of the catalogue.
 async function catalogueData(programs, catalogue) {
   const tell = word => programs.sdd1.tell([word, CATALOGUE], {[CATALOGUE]: catalogue});
@@ -72,7 +77,7 @@ async function catalogueData(programs, catalogue) {
     graph, table,
     relations: relation.map(x => ({name: x.name, columns: columns.get(x.name), key: x.key})),
     fragments: fragment.map(x => ({name: x.name, relation: x.relation, key: columns.get(x.relation).indexOf(keys.get(x.relation))})),
-    classes: list.map(x => ({name: x.name, at: "T" + x.tm, list: 0})),
+    classes: list.map(x => ({name: x.name, at: "T" + x.tm, list: 0, reads: readingModules(x)})),
   };
 }
 

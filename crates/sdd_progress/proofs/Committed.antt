@@ -103,15 +103,20 @@ at_home_by g log h lists n c s =
     } in
     (there, refl)
 
-pub submitted_at_home : (g : Input) (log : Log) → IsPermitted g log → HasSoundLists g log → AreNumbered g log
-    → (n k : ℕ) → IsSubmitted (history log) n k → IsAtHome g log n
-submitted_at_home g log h lists numbered n k submitted =
+-- its class, by the list in force when it was submitted
+pub submitted_class : (g : Input) (log : Log) → IsPermitted g log → AreNumbered g log → (n k : ℕ) → IsSubmitted (history log) n k
+    → (c : ℕ) × IsSubmittedIn g log n c
+submitted_class g log h numbered n k submitted =
     let s = submit_in g log n k h submitted in
     let t = text_of g log n k h numbered s in
     let class : ℕ = class_for (nth_era g (redeclares s.rest)).catalogue t.text in
-    let by : IsSubmittedIn g log n class =
-    record { later = s.later; at = s.at; rest = s.rest; is = s.is; text = t.text; text_is = t.is; class_is = refl } in
-    (at_home_by g log h lists n class by).0
+    (class, record { later = s.later; at = s.at; rest = s.rest; is = s.is; text = t.text; text_is = t.is; class_is = refl })
+
+pub submitted_at_home : (g : Input) (log : Log) → IsPermitted g log → HasSoundLists g log → AreNumbered g log
+    → (n k : ℕ) → IsSubmitted (history log) n k → IsAtHome g log n
+submitted_at_home g log h lists numbered n k submitted =
+    let s = submitted_class g log h numbered n k submitted in
+    (at_home_by g log h lists n s.0 s.1).0
 
 -- so it is committed, where nothing is left in the queue of its class
 pub committed_where_none_queued : (g : Input) (log : Log) (n : ℕ) → IsPermitted g log → (x : IsAtHome g log n)

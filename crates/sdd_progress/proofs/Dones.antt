@@ -1,6 +1,6 @@
 -- Where nothing goes on and its WRITEs are applied, the module for undeclared transactions has counted the DONE of each data
 -- module for its last Commit.
-use Rattle.sdd_progress.proofs.All.{Act, Apply, Attempt, Bases, Bool, ClassNo, D, Did, DmNo, Does, Done, Each, Handed, HasResult, Input, IsApplied, IsDataStep, IsDueEach, IsIdle, IsModule, IsOfWrite, IsQuiet, IsSoundCatalogue, IsStill, List, Log, Msg, Rec, Records, Setting, Site, Some, Ts, TxnNo, U, [], active, answers_read, ap, applies, arith, arrives, at_module, commit_act, d_fair, data_step, dm_no, dones_few, dones_of, each_at, false, hands_from, inl, is_done_of, is_put, last_served, local_of, number_of, numbers_to, one_if, passes, puts_to, refl, refuses_read, replies, result_in, same_number, same_or_not, setting_of, slice_get, subst, suc, sym, tally, tally_append, time_at, to_site, true, u_fair, u_table, waits_for, zero, ℕ, ◌++◌, ◌+◌, ◌<◌, ◌==◌, ◌∙◌, ◌∷◌, ◌≡◌, ◌≤◌}
+use Rattle.sdd_progress.proofs.All.{Act, Apply, Attempt, Bases, Bool, ClassNo, D, Did, DmNo, Does, Done, Each, Handed, HasResult, Input, IsApplied, IsDataStep, IsDueEach, IsIdle, IsModule, IsOfWrite, IsPermitted, IsQuiet, IsSoundCatalogue, IsStill, List, Log, Msg, Rec, Records, Setting, Site, Some, Ts, TxnNo, U, [], active, answers_read, ap, applies, arith, arrives, at_module, commit_act, d_fair, data_step, dm_no, dones_few, dones_of, each_at, false, hands_from, inl, is_done_of, is_put, last_served, local_of, number_of, numbers_to, one_if, passes, puts_to, refl, refuses_read, replies, result_in, same_number, same_or_not, setting_of, slice_get, subst, suc, sym, tally, tally_append, time_at, to_site, true, u_fair, u_table, waits_for, zero, ℕ, ◌++◌, ◌+◌, ◌<◌, ◌==◌, ◌∙◌, ◌∷◌, ◌≡◌, ◌≤◌}
 use Rattle.sdd_progress.proofs.Applied.{all_applied}
 use Rattle.sdd_progress.proofs.CountedDones.{all_current, counted_off}
 use Rattle.sdd_progress.proofs.Handed.{all_handed}
@@ -9,7 +9,7 @@ use Rattle.sdd_obligations.specs.site_module.SiteLog as site
 
 -- one module's DONEs, and those of n modules from module a on
 
-abbrev from_module : ℕ → site.Log → ℕ → ℕ
+abbrev pub from_module : ℕ → site.Log → ℕ → ℕ
 from_module x l d = tally (is_done_of x) (hands_from (D (dm_no d)) l)
 
 abbrev sum_from : (ℕ → ℕ) → ℕ → ℕ → ℕ
@@ -76,23 +76,34 @@ pub idle_applied : (g : Input) (log : Log) → IsQuiet g log → IsSoundCatalogu
 idle_applied g log h sound idle later before bases a is active_is d m =
     all_applied g log 0 d later before bases a (still_of g log h) sound (omega arith) m (h.up d m) (idle.processed 0 d (omega arith) m) is (inl refl)
 
-pub all_done : (g : Input) (log : Log) (later before : Log) (bases : Bases) (a : Attempt) → IsStill g log → IsSoundCatalogue g.catalogue → AreServedApplied g log
-    → log ≡ later ++ Does U (commit_act g.catalogue bases 0 a) ∷ before → active (setting_of g U) 0 (local_of g U before) ≡ Some a
-    → g.catalogue.dms ≤ dones_of a.ts (local_of g U log)
-all_done g log later before bases a h sound applied is active_is =
-    let each : (d : ℕ) → 1 ≤ d → d < 1 + g.catalogue.dms → 1 ≤ from_module a.ts (local_of g U log) d =
-    λ d l m.
-    (let in_range : IsModule g.catalogue d = (l, omega (arith, m)) in
-    let x = applied later before bases a is active_is d in_range in
+-- the DONE of a module at which the WRITE is applied was handed over
+pub from_applied : (g : Input) (log : Log) (d : ℕ) (a : Attempt) → IsStill g log → IsSoundCatalogue g.catalogue → IsModule g.catalogue d
+    → IsApplied g log (dm_no d) 0 a → 1 ≤ from_module a.ts (local_of g U log) d
+from_applied g log d a h sound m x =
     let p = done_put g log d a.txn a.ts x.rec h x.is (result_in 0 (at_module g d log) x.place x.rec x.there) in
-    let same = all_handed g log (D (dm_no d)) U h refl (home_linked g.catalogue 0 d sound (omega arith) in_range).1 in
+    let same = all_handed g log (D (dm_no d)) U h refl (home_linked g.catalogue 0 d sound (omega arith) m).1 in
     one_there (is_done_of a.ts) (hands_from (D (dm_no d)) (local_of g U log)) p.0 (Done (time_at a.ts))
-    (subst (λ ms. slice_get ms p.0 ≡ Some (Done (time_at a.ts))) (sym same) p.1) (same_number a.ts)) in
+    (subst (λ ms. slice_get ms p.0 ≡ Some (Done (time_at a.ts))) (sym same) p.1) (same_number a.ts)
+
+-- as many as there are modules, where each has one
+abbrev pub EachDone : Input → Log → ℕ → Type 0
+EachDone g log ts = (d : ℕ) → 1 ≤ d → d < 1 + g.catalogue.dms → 1 ≤ from_module ts (local_of g U log) d
+
+all_done : (g : Input) (log : Log) (a : Attempt) → EachDone g log a.ts → g.catalogue.dms ≤ dones_of a.ts (local_of g U log)
+all_done g log a each =
     omega (arith, one_each (from_module a.ts (local_of g U log)) g.catalogue.dms 1 each, (dones_of_modules a.ts g.catalogue.dms 1 (local_of g U log)))
 
--- so it has counted them all
+-- then it has counted them all
+pub each_counted : (g : Input) (log : Log) (k t : ℕ) (a : Attempt) → IsPermitted g log → slice_get (numbers_to g.catalogue.tms) k ≡ Some t
+    → (last_served (setting_of g U) (local_of g U log)).ts ≡ a.ts → EachDone g log a.ts
+    → (last_served (setting_of g U) (local_of g U log)).dones ≡ g.catalogue.dms
+each_counted g log k t a h i ts each = grind (arith, counted_off, u_fair, u_table, all_current, dones_few, (all_done g log a each))
+
+-- so has it where the WRITEs are applied
 pub dones_counted : (g : Input) (log : Log) (k t : ℕ) (later before : Log) (bases : Bases) (a : Attempt) → IsStill g log → IsSoundCatalogue g.catalogue → AreServedApplied g log
     → slice_get (numbers_to g.catalogue.tms) k ≡ Some t → log ≡ later ++ Does U (commit_act g.catalogue bases 0 a) ∷ before
     → active (setting_of g U) 0 (local_of g U before) ≡ Some a → (last_served (setting_of g U) (local_of g U log)).ts ≡ a.ts → (last_served (setting_of g U) (local_of g U log)).dones ≡ g.catalogue.dms
 dones_counted g log k t later before bases a h sound applied i is active_is ts =
-    grind (arith, counted_off, u_fair, u_table, all_current, dones_few, (all_done g log later before bases a h sound applied is active_is))
+    each_counted g log k t a h.permitted i ts (λ d l m.
+    (let in_range : IsModule g.catalogue d = (l, omega (arith, m)) in
+    from_applied g log d a h sound in_range (applied later before bases a is active_is d in_range)))

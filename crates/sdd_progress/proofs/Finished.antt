@@ -1,5 +1,5 @@
 -- Where nothing goes on and all is idle, no transaction module is on hold and no transaction is in a queue.
-use Rattle.sdd_progress.proofs.All.{Bool, Catalogue, Input, IsClass, IsFinished, IsIdle, IsQuiet, IsSoundCatalogue, IsStill, Log, None, Option, Queued, Some, T, U, [], active, ap, arith, at_home, at_place, both, chain, chain_at, commit_act, counts, dec_le, eq-eqb, eqb-true, false, from_u, handed_helds, handed_holds, hands_from, head_of, holds, home, if◌then◌else◌, in_filtered, in_mapped, in_range, inl, inr, is_a_held, is_a_hold, is_a_release, is_link, is_none, last_served, le-ltb, list_all, local_of, lt-ltb, none_not_some, not, not_both, not_zero, place_of_act, positive, puts_to, queue, refl, same_or_not, setting_of, slice_get, sound_whole, subst, suc, sym, t_helds, t_table, tally, tm_no, true, u_table, zero_head, ℕ, ◌-◌, ◌<◌, ◌==◌, ◌∙◌, ◌≡◌, ◌≤◌}
+use Rattle.sdd_progress.proofs.All.{Attempt, Bases, Bool, Catalogue, Does, Input, IsClass, IsFinished, IsIdle, IsPermitted, IsQuiet, IsSoundCatalogue, IsStill, Log, None, Option, Queued, Some, T, U, [], active, ap, arith, at_home, at_place, both, chain, chain_at, commit_act, counts, dec_le, eq-eqb, eqb-true, false, from_u, handed_helds, handed_holds, hands_from, head_of, holds, home, if◌then◌else◌, in_filtered, in_mapped, in_range, inl, inr, is_a_held, is_a_hold, is_a_release, is_link, is_none, last_served, le-ltb, list_all, local_of, lt-ltb, none_not_some, not, not_both, not_zero, place_of_act, positive, puts_to, queue, refl, same_or_not, setting_of, slice_get, sound_whole, subst, suc, sym, t_helds, t_table, tally, tm_no, true, u_table, zero_head, ℕ, ◌-◌, ◌<◌, ◌++◌, ◌==◌, ◌∙◌, ◌∷◌, ◌≡◌, ◌≤◌}
 use Rattle.sdd_progress.proofs.Dones.{AreServedApplied, dones_counted, idle_applied}
 use Rattle.sdd_progress.proofs.Handed.{all_handed}
 use Rattle.sdd_progress.proofs.Holds.{holds_needed, last_commit}
@@ -38,25 +38,62 @@ level g log t h l m =
       releases = got.1 ∙ ap (tally is_a_release) down ∙ sym c.releases_are;
     }
 
--- all that U served is released
+-- all that U served is released, once it has counted the DONEs of all modules
 
-all_released : (g : Input) (log : Log) (t : ℕ) → IsStill g log → IsSoundCatalogue g.catalogue → AreServedApplied g log → 1 ≤ t → t ≤ g.catalogue.tms
+abbrev pub AllReleased : Input → Log → Type 0
+AllReleased g log =
+    (t : ℕ) → 1 ≤ t → t ≤ g.catalogue.tms → (counts t (local_of g U log)).releases ≡ (last_served (setting_of g U) (local_of g U log)).commits
+
+pub released_where_counted : (g : Input) (log : Log) (t : ℕ) → IsStill g log → 1 ≤ t → t ≤ g.catalogue.tms
+    → (0 < (last_served (setting_of g U) (local_of g U log)).commits → (last_served (setting_of g U) (local_of g U log)).dones ≡ g.catalogue.dms)
     → (counts t (local_of g U log)).releases ≡ (last_served (setting_of g U) (local_of g U log)).commits
-all_released g log t h sound applied l m =
+released_where_counted g log t h l m counted =
     let s = setting_of g U in
     let lu : site.Log = local_of g U log in
-    let place = at_place g.catalogue.tms t l m in
     elim (dec_le (last_served s lu).commits (counts t lu).releases) [
       | yes p ↦ (let q = (chain_at g (tm_no t) log l m h.permitted).committed in omega (arith, p, q))
       | no p ↦ (let less : (counts t lu).releases < (last_served s lu).commits = omega (arith, p) in
-          let last = last_commit s lu (u_table g log h.permitted) (omega (arith, less)) in
-          let at = place_of_act g U log last.later (commit_act g.catalogue last.bases 0 last.attempt) last.before last.is in
-          let dones = dones_counted g log (t - 1) t at.later at.rest last.bases last.attempt h sound applied place at.is
-          (subst (λ l. active s 0 l ≡ Some last.attempt) (sym at.local_is) last.active_is) last.ts_is in
-          let due : um.release_due g.catalogue (um_views.view_of s lu) (counts t lu) ≡ None = (u_still g log h).releases (t - 1) t place in
+          let due : um.release_due g.catalogue (um_views.view_of s lu) (counts t lu) ≡ None =
+          (u_still g log h).releases (t - 1) t (at_place g.catalogue.tms t l m) in
           let off = if_none _ _ due in
-          absurd (not_both _ (both _ _ (lt-ltb _ _ less) (eq-eqb _ _ dones)) off))
+          absurd (not_both _ (both _ _ (lt-ltb _ _ less) (eq-eqb _ _ (counted (omega (arith, less))))) off))
     ]
+
+-- the Commit of what it served last, in the whole log
+pub record IsLastServed (g : Input) (log : Log) : Type 0 where
+  pub later : Log
+  pub bases : Bases
+  pub attempt : Attempt
+  pub before : Log
+  pub is : log ≡ later ++ Does U (commit_act g.catalogue bases 0 attempt) ∷ before
+  pub active_is : active (setting_of g U) 0 (local_of g U before) ≡ Some attempt
+  pub ts_is : (last_served (setting_of g U) (local_of g U log)).ts ≡ attempt.ts
+
+pub served_last : (g : Input) (log : Log) → IsPermitted g log → 0 < (last_served (setting_of g U) (local_of g U log)).commits → IsLastServed g log
+served_last g log h some =
+    let s = setting_of g U in
+    let last = last_commit s (local_of g U log) (u_table g log h) some in
+    let at = place_of_act g U log last.later (commit_act g.catalogue last.bases 0 last.attempt) last.before last.is in
+    record {
+      later = at.later;
+      bases = last.bases;
+      attempt = last.attempt;
+      before = at.rest;
+      is = at.is;
+      active_is = subst (λ l. active s 0 l ≡ Some last.attempt) (sym at.local_is) last.active_is;
+      ts_is = last.ts_is;
+    }
+
+all_released : (g : Input) (log : Log) → IsStill g log → IsSoundCatalogue g.catalogue → AreServedApplied g log → AllReleased g log
+all_released g log h sound applied t l m =
+    released_where_counted g log t h l m (λ some.
+    (let last = served_last g log h.permitted some in
+    dones_counted g log (t - 1) t last.later last.before last.bases last.attempt h sound applied (at_place g.catalogue.tms t l m) last.is
+    last.active_is last.ts_is))
+
+-- no attempt is under way
+abbrev pub NoAttempt : Input → Log → Type 0
+NoAttempt g log = (c : ℕ) → IsClass g.catalogue c → active (setting_of g (home g.catalogue c)) c (at_home g c log) ≡ None
 
 -- a T on hold has sent its HELD
 
@@ -64,16 +101,16 @@ run_by : (g : Input) (c t k : ℕ) → slice_get (tm_views.runs (setting_of g (T
     → (1 ≤ c) × (home g.catalogue c ≡ T (tm_no t)) × IsClass g.catalogue c
 run_by g c t k e = grind (arith, in_filtered, in_range, eqb-true, not_zero)
 
-all_idle : (g : Input) (log : Log) (t : ℕ) → IsIdle g log → 1 ≤ t
+all_idle : (g : Input) (log : Log) (t : ℕ) → NoAttempt g log → 1 ≤ t
     → list_all tm_views.is_idle (tm_views.view_of (setting_of g (T (tm_no t))) (local_of g (T (tm_no t)) log)).classes ≡ true
 all_idle g log t idle l =
     all_true tm_views.is_idle _ (λ k x e.
     (let r = in_mapped (tm_views.class_view (setting_of g (T (tm_no t))) (local_of g (T (tm_no t)) log)) (tm_views.runs (setting_of g (T (tm_no t)))) k x e in
     let run = run_by g r.0 t k r.1 in
-    let none = idle.no_attempt r.0 run.2 in
+    let none = idle r.0 run.2 in
     ap tm_views.is_idle (sym r.2) ∙ ap is_none (subst (λ y. active (setting_of g y) r.0 (local_of g y log) ≡ None) run.1 none)))
 
-held_of_hold : (g : Input) (log : Log) (t : ℕ) → IsStill g log → IsIdle g log → 1 ≤ t → t ≤ g.catalogue.tms
+held_of_hold : (g : Input) (log : Log) (t : ℕ) → IsStill g log → NoAttempt g log → 1 ≤ t → t ≤ g.catalogue.tms
     → (holds (local_of g (T (tm_no t)) log)).releases < (holds (local_of g (T (tm_no t)) log)).holds
     → (holds (local_of g (T (tm_no t)) log)).holds ≤ (holds (local_of g (T (tm_no t)) log)).helds
 held_of_hold g log t h idle l m on =
@@ -94,14 +131,14 @@ AreHolding g log =
     (last_served (setting_of g U) (local_of g U log)).commits)
     × ((counts t (local_of g U log)).helds ≡ suc (last_served (setting_of g U) (local_of g U log)).commits)
 
-u_holding : (g : Input) (log : Log) (q : Queued) → IsStill g log → IsSoundCatalogue g.catalogue → AreServedApplied g log → IsIdle g log
+u_holding : (g : Input) (log : Log) (q : Queued) → IsStill g log → AllReleased g log → NoAttempt g log
     → head_of (queue (setting_of g U) 0 (local_of g U log)) ≡ Some q → AreHolding g log
-u_holding g log q h sound applied idle e t l m =
+u_holding g log q h all idle e t l m =
     let s = setting_of g U in
     let lu : site.Log = local_of g U log in
     let c = chain_at g (tm_no t) log l m h.permitted in
     let v = level g log t h l m in
-    let released = all_released g log t h sound applied l m in
+    let released = all t l m in
     let due : um.hold_to (counts t lu) (Some q) ≡ None =
     subst (λ o. um.hold_to (counts t lu) o ≡ None) e ((u_still g log h).holds (t - 1) t (at_place g.catalogue.tms t l m)) in
     let apart : ((counts t lu).releases == (counts t lu).holds) ≡ false = if_none _ _ due in
@@ -119,9 +156,9 @@ none_held : (g : Input) (log : Log) → IsStill g log → IsSoundCatalogue g.cat
     → (o : Option Queued) → head_of (queue (setting_of g U) 0 (local_of g U log)) ≡ o → o ≡ None
 none_held g log h sound inactive holding o e = grind (arith, all_served, sound_whole, zero_head, list_all, all_true, in_mapped, in_range, holding, eq-eqb, u_still, if_none, not_both)
 
-u_no_queue : (g : Input) (log : Log) → IsStill g log → IsSoundCatalogue g.catalogue → AreServedApplied g log → IsIdle g log → (o : Option Queued)
+pub u_no_queue : (g : Input) (log : Log) → IsStill g log → IsSoundCatalogue g.catalogue → AllReleased g log → NoAttempt g log → (o : Option Queued)
     → head_of (queue (setting_of g U) 0 (local_of g U log)) ≡ o → o ≡ None
-u_no_queue g log h sound applied idle o e = none_held g log h sound (idle.no_attempt 0 (omega arith)) (λ q f. u_holding g log q h sound applied idle f) o e
+u_no_queue g log h sound all idle o e = none_held g log h sound (idle 0 (omega arith)) (λ q f. u_holding g log q h all idle f) o e
 
 -- so no T is on hold, where U has applied what it committed; and one that isn't has nothing in the queue of an idle class
 
@@ -132,7 +169,7 @@ off_hold g log t h sound applied none l m =
     let s = setting_of g U in
     let lu : site.Log = local_of g U log in
     let v = level g log t h l m in
-    let released = all_released g log t h sound applied l m in
+    let released = all_released g log h sound applied t l m in
     elim (holds_needed s (t - 1) t lu (at_place g.catalogue.tms t l m) (u_table g log h.permitted)) [
       | inl p ↦ omega (arith, p, v.holds_same, v.releases, released, (chain_at g (tm_no t) log l m h.permitted).in_turn)
       | inr q ↦ absurd (none_not_some (head_of (queue s 0 lu)) q.0 none q.1)
@@ -178,7 +215,7 @@ pub finished : (g : Input) (log : Log) → IsQuiet g log → IsSoundCatalogue g.
 finished g log quiet sound idle =
     let h = still_of g log quiet in
     let applied = idle_applied g log quiet sound idle in
-    let none = u_no_queue g log h sound applied idle (head_of (queue (setting_of g U) 0 (local_of g U log))) refl in
+    let none = u_no_queue g log h sound (all_released g log h sound applied) idle.no_attempt (head_of (queue (setting_of g U) 0 (local_of g U log))) refl in
     record {
       idle = idle;
       no_queue = λ c l. elim (same_or_not c 0) [

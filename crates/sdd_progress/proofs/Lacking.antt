@@ -131,34 +131,70 @@ pub record IsUnansweredUp (g : Input) (log : Log) (c : ℕ) (a : Attempt) : Type
   pub asked : contains (firsts a.exchange.modules) unanswered.d ≡ true
   pub up : is_down unanswered.d log ≡ false
 
-pub has_unanswered : (g : Input) (log : Log) (c : ℕ) (a : Attempt) → IsStill g log → FitsInput g → IsClass g.catalogue c → AsksUp g log c
-    → active (setting_of g (home g.catalogue c)) c (at_home g c log) ≡ Some a → IsUnansweredUp g log c a
-has_unanswered g log c a h good l ups e =
+-- a module whose answer lacks has been asked
+record IsAskedOf (g : Input) (log : Log) (c d : ℕ) (a : Attempt) : Type 0 where
+  module_is : IsModule g.catalogue d
+  within : contains (firsts a.exchange.modules) d ≡ true
+  uses : List ℕ
+  question : Msg
+  turn_is : turn_at a.ts c d (at_home g c log) ≡ Asks uses question
+
+asked_of : (g : Input) (log : Log) (c d : ℕ) (a : Attempt) → IsStill g log → FitsInput g → IsClass g.catalogue c
+    → active (setting_of g (home g.catalogue c)) c (at_home g c log) ≡ Some a → contains a.exchange.lacks d ≡ true → IsAskedOf g log c d a
+asked_of g log c d a h good l e lack =
     let s = setting_of g (home g.catalogue c) in
-    let at = home g.catalogue c in
     let sp = spoken g c log h.permitted (small_home g.catalogue good.sound c l) in
     let waits = waits_for g.catalogue (base_of g log) c a
     (subst (λ o. attempt_due g.catalogue (base_of g log) c o ≡ None) e (exchange_none g log c h good.sound l)) in
-    let lack = lacking_one a.exchange.lacks ((goes_on g log c a h.permitted good l e).lacks waits.not_over) in
-    let d : ℕ = lack.0 in
     let is_recorded : AtTurn a.ts d (Some a) (turn_at a.ts c d (at_home g c log)) =
     subst (λ o. AtTurn a.ts d o (turn_at a.ts c d (at_home g c log))) e ((home_turns g c log h.permitted sp).turns a.ts d) in
-    let q = asked_at d a.exchange (turn_at a.ts c d (at_home g c log)) waits.nothing_to_send lack.1 (is_recorded.0 refl) in
+    let q = asked_at d a.exchange (turn_at a.ts c d (at_home g c log)) waits.nothing_to_send lack (is_recorded.0 refl) in
     let near : IsNearBy g.catalogue.dms a.exchange =
     subst (HasNear g.catalogue.dms) e (active_near s c (at_home g c log) (sound_whole g.catalogue good.sound) (home_fair g c log h.permitted)) in
-    let m : IsModule g.catalogue d = near_one g.catalogue.dms d a.exchange.modules a.exchange near q.within in
-    let up : is_down d log ≡ false = ups a e d m q.within in
-    let there : turn_with a.ts c at (at_module g d log) ≡ Asks q.uses q.question = sym (same_turn g log c d a.ts h good.sound l m up) ∙ q.is in
+    record {
+      module_is = near_one g.catalogue.dms d a.exchange.modules a.exchange near q.within;
+      within = q.within;
+      uses = q.uses;
+      question = q.question;
+      turn_is = q.is;
+    }
+
+-- so one whose answer lacks and that is up has its READ, not processed
+pub unanswered_at : (g : Input) (log : Log) (c d : ℕ) (a : Attempt) → IsStill g log → FitsInput g → IsClass g.catalogue c
+    → active (setting_of g (home g.catalogue c)) c (at_home g c log) ≡ Some a → contains a.exchange.lacks d ≡ true
+    → (IsModule g.catalogue d → contains (firsts a.exchange.modules) d ≡ true → is_down d log ≡ false) → IsUnansweredUp g log c a
+unanswered_at g log c d a h good l e lack ups =
+    let at = home g.catalogue c in
+    let sp = spoken g c log h.permitted (small_home g.catalogue good.sound c l) in
+    let q = asked_of g log c d a h good l e lack in
+    let up : is_down d log ≡ false = ups q.module_is q.within in
+    let there : turn_with a.ts c at (at_module g d log) ≡ Asks q.uses q.question =
+    sym (same_turn g log c d a.ts h good.sound l q.module_is up) ∙ q.turn_is in
     let has : HasTurn a.ts c at (opens (at_module g d log)) (pipe c (at_module g d log))
     (Asks q.uses q.question) = subst (HasTurn a.ts c at (opens (at_module g d log))
     (pipe c (at_module g d log))) there (data_turns g a.ts c d log h.permitted sp) in
     let none : filter (asks_open a.ts c) (opens (at_module g d log)) ≡ [] =
-    less_left (asks_open a.ts c) (is_asked_of c) (opens (at_module g d log)) (λ o f. (grind (arith, and_right))) (none_open g log c d h l m) in
+    less_left (asks_open a.ts c) (is_asked_of c) (opens (at_module g d log)) (λ o f. (grind (arith, and_right))) (none_open g log c d h l q.module_is) in
     let read = read_it_is a.ts c q.question has.own.0 (not_rows a.ts c at (opens (at_module g d log)) q.uses q.question none has.rows_are) in
     let i = in_filtered (is_read a.ts c) (pipe c (at_module g d log)).unprocessed 0 q.question
     (read_there a.ts c q.uses q.question (pipe c (at_module g d log)).unprocessed read has.reads_are) in
     record {
-      unanswered = record { d = d; module_is = m; place = i.1; message = q.question; there = i.2; is_its = read };
+      unanswered = record { d = d; module_is = q.module_is; place = i.1; message = q.question; there = i.2; is_its = read };
       asked = q.within;
       up = up;
     }
+
+-- some answer lacks of an attempt that is under way
+pub lacks_one : (g : Input) (log : Log) (c : ℕ) (a : Attempt) → IsStill g log → FitsInput g → IsClass g.catalogue c
+    → active (setting_of g (home g.catalogue c)) c (at_home g c log) ≡ Some a → (d : ℕ) × (contains a.exchange.lacks d ≡ true) × IsModule g.catalogue d
+lacks_one g log c a h good l e =
+    let waits = waits_for g.catalogue (base_of g log) c a
+    (subst (λ o. attempt_due g.catalogue (base_of g log) c o ≡ None) e (exchange_none g log c h good.sound l)) in
+    let lack = lacking_one a.exchange.lacks ((goes_on g log c a h.permitted good l e).lacks waits.not_over) in
+    (lack.0, lack.1, (asked_of g log c lack.0 a h good l e lack.1).module_is)
+
+pub has_unanswered : (g : Input) (log : Log) (c : ℕ) (a : Attempt) → IsStill g log → FitsInput g → IsClass g.catalogue c → AsksUp g log c
+    → active (setting_of g (home g.catalogue c)) c (at_home g c log) ≡ Some a → IsUnansweredUp g log c a
+has_unanswered g log c a h good l ups e =
+    let lack = lacks_one g log c a h good l e in
+    unanswered_at g log c lack.0 a h good l e lack.1 (λ m q. ups a e lack.0 m q)

@@ -35,6 +35,7 @@ pub mod FromTable
 pub mod Fronts
 pub mod Going
 pub mod Handed
+pub mod HangsOn
 pub mod Holds
 pub mod IdleAtRedeclares
 pub mod IdleStarts
@@ -70,6 +71,7 @@ pub mod QuietAfter
 pub mod Rejected
 pub mod Rejects
 pub mod Settled
+pub mod ServedStarts
 pub mod SinceRedeclare
 pub mod Sites
 pub mod Spoilt

@@ -1,6 +1,6 @@
 -- What is up where the modules are that a class needs: the modules that its attempts ask, since a class reads there, and so
 -- those at which its READs wait; and what the classes need for which they wait.
-use Rattle.sdd_progress.proofs.All.{AllByRecursion, Attempt, Catalogue, Cond, Contains, D, FragNo, Input, IsDiagonalIn, IsFromTable, IsPermitted, IsPutAt, IsReader, List, Log, Msg, Needs, NeedsAreUp, None, Option, P2, P3, Protocol, Read, Setting, Site, Some, [], active, ap, arith, ascending, asks_by, at_home, attempt_task, attempts_need, both, class_at, class_number, contains, cons_option, dm_no, eq-eqb, eqb-true, false, filter_map, firsts, fragments_in, head_put, held_needs, home, home_fair, if◌then◌else◌, inl, inr, is_wait, local_of, map, option_map, or_left, or_right, passing_task, queued_needs, read_needs, recursion_from_All, refl, same_number, sends_of_act, setting_of, slice_get, start_at, start_read, subst, sym, table_in_force, time_at, to_site, true, true_or_false, uses_of, waits_by, waits_need, ℕ, ◌==◌, ◌∙◌, ◌∷◌, ◌≡◌, ◌≤◌}
+use Rattle.sdd_progress.proofs.All.{AllByRecursion, Attempt, Catalogue, Cond, Contains, D, FragNo, Input, IsClass, IsDiagonalIn, IsFromTable, IsPermitted, IsPutAt, IsReader, List, Log, Msg, Needs, NeedsAreUp, None, Option, P2, P3, Protocol, Read, Setting, Site, Some, [], active, ap, ascending, asks_by, at_home, attempt_task, attempts_need, both, class_at, class_number, contains, cons_option, dm_no, eq-eqb, eqb-true, false, filter_map, firsts, fragments_in, head_put, held_needs, home, home_fair, inl, inr, is_wait, local_of, map, option_map, or_left, or_right, passing_task, queued_needs, read_needs, recursion_from_All, refl, same_number, sends_of_act, setting_of, slice_get, start_at, start_read, subst, sym, table_in_force, time_at, to_site, true, true_or_false, uses_of, waits_by, waits_need, ℕ, ◌==◌, ◌∙◌, ◌∷◌, ◌≡◌}
 use Rattle.sdd_lawful.proofs.Touched.{any_there}
 use Rattle.sdd_obligations.proofs.catalog.Sound.{found_in_all}
 use Rattle.sdd_obligations.proofs.invariants.Answered.{honest}
@@ -121,10 +121,17 @@ condition_waits table i own p2 q t = elim t.by [
 abbrev pub PassingsUp : Input → Log → ℕ → Type 0
 PassingsUp g log c = (j : ℕ) → waits_by (table_in_force g log) c j ≡ true → NeedsAreUp g log (passing_task j)
 
--- and what is needed so that what stands in this pipe of the class can go on: also of each class whose READ may hold a WRITE
-pub record CanMove (g : Input) (log : Log) (c d : ℕ) : Type 0 where
-  pub own : PassingsUp g log c
-  pub others : (r : ℕ) → ReadsThere g.catalogue r d → waits_by (table_in_force g log) r c ≡ true → PassingsUp g log r
+-- A set of classes that is closed: where a class of it waits for another one, the attempts of that one ask only modules that are
+-- up, and it is of the set too, and so is each class whose READ may hold a WRITE of it back.
+pub record IsClosed (g : Input) (log : Log) (Clear : ℕ → Type 0) : Type 0 where
+  pub asks : (c j : ℕ) → Clear c → waits_by (table_in_force g log) c j ≡ true → (j == 0) ≡ false → IsClassOf g.catalogue j → AsksUp g log j
+  pub writer : (c j : ℕ) → Clear c → waits_by (table_in_force g log) c j ≡ true → Clear j
+  pub holder : (c j r : ℕ) → Clear c → waits_by (table_in_force g log) c j ≡ true → waits_by (table_in_force g log) r j ≡ true → Clear r
+
+-- what is needed so that what stands in this pipe of the class can go on: also of each class whose READ may hold a WRITE
+pub record CanMove (g : Input) (log : Log) (Clear : ℕ → Type 0) (c d : ℕ) : Type 0 where
+  pub own : Clear c
+  pub others : (r : ℕ) → ReadsThere g.catalogue r d → waits_by (table_in_force g log) r c ≡ true → Clear r
 
 pub of_attempt : (g : Input) (log : Log) (c : ℕ) → NeedsAreUp g log (attempt_task c) → PassingsUp g log c
 of_attempt g log c up j w d m n = up d m (waits_need c j (D (dm_no d)) w n)
@@ -135,10 +142,10 @@ of_passing g log c up d m n = up d m (attempts_need c (D (dm_no d)) n)
 pub of_held : (g : Input) (log : Log) (c r : ℕ) → NeedsAreUp g log (passing_task c) → waits_by (table_in_force g log) r c ≡ true → PassingsUp g log r
 of_held g log c r up w j v d m n = up d m (held_needs c j r (D (dm_no d)) w v n)
 
-pub passing_moves : (g : Input) (log : Log) (c d : ℕ) → NeedsAreUp g log (passing_task c) → CanMove g log c d
+pub passing_moves : (g : Input) (log : Log) (c d : ℕ) → NeedsAreUp g log (passing_task c) → CanMove g log (PassingsUp g log) c d
 passing_moves g log c d up = record { own = of_attempt g log c (of_passing g log c up); others = λ r there w. of_held g log c r up w }
 
-pub attempt_moves : (g : Input) (log : Log) (c d : ℕ) → NeedsAreUp g log (attempt_task c) → ReadsThere g.catalogue c d → CanMove g log c d
+pub attempt_moves : (g : Input) (log : Log) (c d : ℕ) → NeedsAreUp g log (attempt_task c) → ReadsThere g.catalogue c d → CanMove g log (PassingsUp g log) c d
 attempt_moves g log c d up here = record {
   own = of_attempt g log c up;
   others = λ r there w j v b m n. up b m
@@ -150,3 +157,26 @@ pub asks_up : (g : Input) (log : Log) (c : ℕ) → IsPermitted g log → (c == 
 asks_up g log c h z class up a e d m asked =
     let r = attempt_reads g log c d a h z e asked in
     up d m (subst (λ x. Needs g.catalogue (table_in_force g log) (attempt_task c) (D (dm_no x))) r.at_is (read_needs c r.read class r.there))
+
+-- the classes are closed of which all is up for which they wait
+pub passings_closed : (g : Input) (log : Log) → IsPermitted g log → IsClosed g log (PassingsUp g log)
+passings_closed g log h = record {
+  asks = λ c j up w z class. asks_up g log j h z class (of_passing g log j (up j w));
+  writer = λ c j up w. of_attempt g log j (of_passing g log j (up j w));
+  holder = λ c j r up w v. of_held g log j r (up j w) v;
+}
+
+-- the modules that the attempts ask are up, of each declared class
+abbrev pub AllAskUp : Input → Log → Type 0
+AllAskUp g log = (j : ℕ) → (j == 0) ≡ false → IsClass g.catalogue j → AsksUp g log j
+
+-- then all classes are a closed set
+abbrev pub AnyClass : ℕ → Type 0
+AnyClass c = Unit {0}
+
+pub all_closed : (g : Input) (log : Log) → AllAskUp g log → IsClosed g log AnyClass
+all_closed g log ask = record {
+  asks = λ c j up w z class. ask j z class.to;
+  writer = λ c j up w. tt;
+  holder = λ c j r up w v. tt;
+}

@@ -31,7 +31,7 @@ read_module g c d log ts k txn n conds uses whole h e =
     ]
 
 -- no REJECT was handed to U
-never_rejected : (g : Input) (log : Log) (d : DmNo) (k : ℕ) (ts : Ts) (class by : ClassNo) (write : Ts) → IsWhole g.catalogue → IsPermitted g log
+pub never_rejected : (g : Input) (log : Log) (d : DmNo) (k : ℕ) (ts : Ts) (class by : ClassNo) (write : Ts) → IsWhole g.catalogue → IsPermitted g log
     → slice_get (puts_to U (local_of g (D d) log)) k ≡ Some (Reject ts class by write) → ⊥
 never_rejected g log d k ts class by write whole h e =
     let p = put_in_by_d g log d U k (Reject ts class by write) h e in

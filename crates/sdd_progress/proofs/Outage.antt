@@ -1,5 +1,5 @@
 -- What an outage of data modules leaves undone.
-use Rattle.sdd_progress.proofs.All.{AppliedBefore, AreSubmittedOnce, Committed, CostsNoMore, D, Does, HasSoundLists, Input, IsClass, IsCommitted, IsIdleAtRedeclares, IsLawful, IsPermitted, IsSoundCatalogue, IsSoundList, IsStill, IsSubmittedIn, Log, NeedsAreUp, None, Records, Rests, UndeclaredAreDone, WasCommitted, [], all_links, ap, arith, at_home, attempt_task, calls_of, commit_of_log, complete_parts, dm_no, has_copy, head_of, history, home, is_down, keeps_applies, lawful_permitted, length, next, none_to_hand, not_zero, passing_task, queue, quiet, redeclares, setting_of, subst, sym, true, false, ℕ, ◌++◌, ◌==◌, ◌∙◌, ◌∷◌, ◌≡◌, ◌≤◌}
+use Rattle.sdd_progress.proofs.All.{AppliedBefore, AreSubmittedOnce, Attempt, Bases, Committed, CostsNoMore, D, Does, HasSoundLists, Input, IsApplied, IsClass, IsCommitted, IsIdleAtRedeclares, IsLawful, IsPermitted, IsSoundCatalogue, IsSoundList, IsStill, IsSubmittedIn, Log, NeedsAreUp, None, Records, Rests, Some, U, UndeclaredAreDone, WasCommitted, [], active, all_links, ap, arith, at_home, attempt_task, calls_of, commit_act, commit_of_log, complete_parts, dm_no, has_copy, head_of, history, home, is_down, keeps_applies, lawful_permitted, length, local_of, next, none_to_hand, not_zero, passing_task, queue, quiet, redeclares, setting_of, subst, sym, true, false, ℕ, ◌++◌, ◌==◌, ◌∙◌, ◌∷◌, ◌≡◌, ◌≤◌}
 use Rattle.sdd_lawful.proofs.Applied.{applied_there, apply_in, apply_rec}
 use Rattle.sdd_lawful.proofs.Committed.{same_committed}
 use Rattle.sdd_obligations.specs.All.{IsClassOf}
@@ -8,7 +8,7 @@ use Rattle.sdd_progress.proofs.Committed.{at_home_by, committed_where_none_queue
 use Rattle.sdd_progress.proofs.Copies.{applied_at}
 use Rattle.sdd_progress.proofs.Dones.{AreServedApplied}
 use Rattle.sdd_progress.proofs.Finished.{none_queued, off_hold_at}
-use Rattle.sdd_progress.proofs.NeededModules.{passing_moves}
+use Rattle.sdd_progress.proofs.NeededModules.{PassingsUp, passing_moves, passings_closed}
 use Rattle.sdd_progress.proofs.NoneWaits.{none_under_way, none_unprocessed}
 
 -- where the links are quiet, nothing goes on between events, nor at the end
@@ -20,13 +20,16 @@ pub complete_is_still : (g : Input) (log : Log) → AreSubmittedOnce g.events �
     → quiet (all_links g) (calls_of log) ≡ true → IsStill g log
 complete_is_still g log once lawful complete links = grind (arith, complete_parts, lawful_permitted)
 
--- where the undeclared transactions are done, what U committed is applied at each data module
+-- where the history says that an undeclared transaction is applied at a module, its WRITE is
 
-served_applied : (g : Input) (log : Log) → IsSoundCatalogue g.catalogue → IsPermitted g log → UndeclaredAreDone g log → AreServedApplied g log
-served_applied g log sound h undeclared later before bases a is active_is d m =
+pub applied_by_record : (g : Input) (log : Log) (sound : IsSoundCatalogue g.catalogue) (h : IsPermitted g log)
+    (later before : Log) (bases : Bases) (a : Attempt)
+    (is : log ≡ later ++ Does U (commit_act g.catalogue bases 0 a) ∷ before) (active_is : active (setting_of g U) 0 (local_of g U before) ≡ Some a) (d : ℕ)
+    → AppliedBefore (history log) (commit_of_log g log later before 0 bases a sound h is active_is).committed.start.txn d (length (history log))
+    → IsApplied g log (dm_no d) 0 a
+applied_by_record g log sound h later before bases a is active_is d x =
     let c = commit_of_log g log later before 0 bases a sound h is active_is in
     let t : Committed = c.committed in
-    let x = undeclared.applied t d c.is_committed c.class_is m in
     let of = (keeps_applies g log sound h).of_commit t.start.txn x.applied.class d x.applied.ts x.place x.applied.is_recorded in
     let same : of.committed ≡ t = same_committed g log sound h of.committed t of.is_committed c.is_committed of.txn_is in
     let class : x.applied.class ≡ 0 = sym of.class_is ∙ ap (λ (y : Committed). y.start.class) same ∙ c.class_is in
@@ -35,6 +38,12 @@ served_applied g log sound h undeclared later before bases a is active_is d m =
     let made : ℕ → ℕ → ℕ → Log = λ n k s. i.later ++ Does (D (dm_no d)) (Records k (apply_rec n k d s) i.sends) ∷ i.before in
     applied_there g log i.later i.before d 0 a i.sends
     (i.is ∙ ap (λ k. made t.start.txn k x.applied.ts) class ∙ ap (λ s. made t.start.txn 0 s) ts ∙ ap (λ n. made n 0 a.ts) c.txn_is)
+
+-- so it is at each, where the undeclared transactions are done
+served_applied : (g : Input) (log : Log) → IsSoundCatalogue g.catalogue → IsPermitted g log → UndeclaredAreDone g log → AreServedApplied g log
+served_applied g log sound h undeclared later before bases a is active_is d m =
+    let c = commit_of_log g log later before 0 bases a sound h is active_is in
+    applied_by_record g log sound h later before bases a is active_is d (undeclared.applied c.committed d c.is_committed c.class_is m)
 
 module _ (g : Input) (log : Log) (h : IsStill g log) (lists : HasSoundLists g log) (marks : IsIdleAtRedeclares g log) where
   one : IsSoundList g (redeclares log)
@@ -59,7 +68,8 @@ module _ (g : Input) (log : Log) (h : IsStill g log) (lists : HasSoundLists g lo
       → AppliedBefore (history log) t.start.txn d (length (history log))
   change_applied t f d c from e copied up needs =
       applied_at g log t f d one.fits.sound h lists c e copied up
-      (λ within m. none_unprocessed g log h one marks t.start.class d (not_zero t.start.class from) within m up
+      (λ within m. none_unprocessed g log h one marks (PassingsUp g log) (passings_closed g log h.permitted) t.start.class d
+      (not_zero t.start.class from) within m up
       (passing_moves g log t.start.class d needs))
 
   pub costs_no_more : CostsNoMore g log

@@ -10,6 +10,7 @@ pub mod Few
 pub mod Finished
 pub mod Free
 pub mod Going
+pub mod HangsOn
 pub mod Heads
 pub mod Outage
 pub mod Premises

@@ -24,7 +24,8 @@
 //!   settle (`law_settled`).
 //! - Where data modules are down, a transaction of a declared class commits unless a module is down that
 //!   its class needs, itself or through the classes that it waits for, or an undeclared transaction isn't
-//!   done; and its changes are applied but where such a module is down (`law_outage`).
+//!   done; and its changes are applied but where such a module is down (`law_outage`). An undeclared one
+//!   that isn't committed hangs on a module that is down (`law_hangs_on`).
 //! - A transaction's rejected attempts are at most the Commits of other transactions
 //!   (`law_few_rejected`), so a run has at most the square of their number of attempts
 //!   (`law_few_attempts`).
@@ -60,7 +61,7 @@ pub use law::{
     law_committed, law_copies, law_eras_of_log, law_finished, law_idle_at_redeclares,
     law_none_left, law_resting, law_settled,
 };
-pub use outage_law::law_outage;
+pub use outage_law::{law_hangs_on, law_outage};
 pub use parts::{law_class_zero, law_exchanges, law_handed, law_none_waits, law_unanswered};
 pub use quiet_law::{
     law_diagonals_listed, law_no_path_to_writer, law_no_ring_waits, law_table_fits,

@@ -1,6 +1,9 @@
 //! What an outage of data modules costs.
-ghost use Rattle.std.specs.Prelude.{◌≡◌, None, true};
-ghost use Rattle.sdd_obligations.specs.All.{AreSubmittedOnce, Input, IsLawful, Log, Rests, all_links, calls_of, next, quiet};
+ghost use Rattle.std.specs.Prelude.{◌≡◌, ℕ, None, false, length, true};
+ghost use Rattle.sdd_lawful.specs.SoundInput.{AreNumbered};
+ghost use Rattle.sdd_obligations.specs.All.{AreAllApplied, AreSubmittedOnce, Input, IsLawful, IsModule, IsPermitted, IsSoundCatalogue, Log, Rests, all_links, calls_of, has_copy, history, is_down, next, quiet};
+ghost use Rattle.sdd_progress.specs.Committed.{AllCommitted};
+ghost use Rattle.sdd_progress.specs.HangsOn.{HoldsUpUndeclared};
 ghost use Rattle.sdd_progress.specs.Outage.{CostsNoMore};
 ghost use Rattle.sdd_progress.specs.Premises.{HasSoundLists, IsIdleAtRedeclares};
 ghost use Rattle.sdd_progress.specs.Quiet.{IsStill};
@@ -16,4 +19,20 @@ pub fn law_outage()
         → next given log ≡ None → quiet (all_links given) (calls_of log) ≡ true → IsStill given log }
     ensures costs { (given : Input) (log : Log) → IsStill given log → HasSoundLists given log
         → IsIdleAtRedeclares given log → CostsNoMore given log }
+{}
+
+/// A law: an undeclared transaction that isn't committed hangs on a data module that is down: on one
+/// whose answer it lacks, on one at which the undeclared transaction before it isn't applied, or on one
+/// that an attempt of a declared class needs which has to end first. Where no module is down, all is
+/// committed and applied, by this and by what `law_outage` says of declared classes.
+pub fn law_hangs_on()
+    ensures holds_up { (given : Input) (log : Log) → IsStill given log → HasSoundLists given log
+        → IsIdleAtRedeclares given log → HoldsUpUndeclared given log }
+    ensures settles { (given : Input) (log : Log) → IsPermitted given log → AreNumbered given log
+        → CostsNoMore given log → HoldsUpUndeclared given log
+        → ((d : ℕ) → IsModule given.catalogue d → is_down d log ≡ false) → AllCommitted (history log) }
+    ensures leaves { (given : Input) (log : Log) (f d : ℕ) → IsSoundCatalogue given.catalogue
+        → CostsNoMore given log → HoldsUpUndeclared given log
+        → ((b : ℕ) → IsModule given.catalogue b → is_down b log ≡ false)
+        → has_copy given.catalogue d f ≡ true → AreAllApplied (history log) f d (length (history log)) }
 {}

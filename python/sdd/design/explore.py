@@ -37,6 +37,10 @@ side, and the changes of the protocol table are listed. The picture (SVG) has th
 
 The line above the table has the packets that arrived for each commit, with their acknowledgements.
 
+Where the workload leaves a data module down at its end, a last list has what isn't committed then, and on which of
+these modules it may hang: one at which its class reads, or one that a class needs for which it waits, two and more
+steps away.
+
 --pace is how many rounds lie between two submissions, on the average (4): the less, the more transactions
 are under way at once. --faults is how many of 100 events lose, repeat or resend packets (0).
 """
@@ -49,7 +53,8 @@ from typing import NamedTuple
 
 from sdd.command import count, parser
 from sdd.design import distributions, explore_times
-from sdd.design.figures import as_json, collect_drains, collect_figures, print_comparison, print_design
+from sdd.design.figures import as_json, collect_drains, collect_figures, kind_of, print_comparison, print_design
+from sdd.design.hanging import collect_pending, print_pending
 from sdd.design.observed import observe
 from sdd.design.protocols import print_changes, print_protocols, read_protocols
 from sdd.design.schedules import Manner, draw_schedule, enumerate_schedules, list_links, read_load
@@ -74,6 +79,7 @@ class Design(NamedTuple):
     links: int
     transactions: int
     packets: float          # that arrived, for each commit
+    pending: list           # of what isn't committed at the end, where a data module is down: Pending
 
 
 class Explorer:
@@ -128,7 +134,9 @@ class Explorer:
         figures, pairs = collect_figures(observed, asked.by, unit)
         table = self.program.text(["table", self.path])
         packets = sum(self.packets(x) for x in observed) / max(1, sum(x.commits() for x in observed))
-        return Design(self.path, figures, pairs, collect_drains(observed, unit), read_protocols(table), len(schedules), complete, len(self.links), len(self.load.submitted()), packets)
+        pending = collect_pending(self.catalogue, self.work, self.load.events, observed, lambda name, cls: cls if asked.by == "class" else kind_of(name))
+        return Design(self.path, figures, pairs, collect_drains(observed, unit), read_protocols(table), len(schedules), complete,
+                      len(self.links), len(self.load.submitted()), packets, pending)
 
     def packets(self, observed):
         """How many packets arrived: events that found something to do, but for submissions, ticks, downs and ups."""
@@ -196,9 +204,11 @@ def main():
         print(as_json(designs, asked.by, unit))
     elif len(designs) == 1:
         print_design(designs[0], asked.by, unit)
+        print_pending(designs)
         print_protocols(designs[0].protocols)
     else:
         print_comparison(designs, asked.by, unit)
+        print_pending(designs)
         print_changes(designs[0].protocols, designs[1].protocols)
     if asked.picture:
         write_text(asked.picture, distributions.draw_distributions(designs, asked.by, unit))

@@ -56,7 +56,8 @@ def as_json(designs, by, unit):
         counts = {p: sum(y == p for y in x.protocols.values()) for p in ("P1", "P2", "P3")}
         made.append({"catalogue": x.name, "schedules": x.runs, "all_schedules": x.complete, "transactions": x.transactions, "links": x.links,
                      "packets_per_commit": rounded(x.packets), "protocols": counts, by: {name: g.numbers() for name, g in x.figures.items()},
-                     "pairs": pairs, "drains": {"count": len(x.drains), "median": rounded(median(x.drains))}})
+                     "pairs": pairs, "drains": {"count": len(x.drains), "median": rounded(median(x.drains))},
+                     "pending": [y._asdict() for y in x.pending]})
     return json.dumps({"unit": unit, "designs": made}, indent=1)
 
 

@@ -29,6 +29,7 @@ class Observed(NamedTuple):
     transactions: dict      # name -> Reported
     events: int             # the number of the last event with a record
     idle: int               # how many events found nothing to do
+    pending: tuple = ()     # the transactions that aren't committed at the end
 
     def commits(self):
         return sum(x.committed is not None for x in self.transactions.values())
@@ -49,13 +50,16 @@ def observe(text):
             TAKEN[kind](reported, begun, int(event), rest.split(" "))
     for (name, _, module), (_, awaited) in begun.items():
         reported[name].waits.append(Wait(module, awaited, None))
+    pending = []
     for line in lines:
         if line.startswith("shipped "):
             _, name, values, rows = line.split(" ")
             reported[name].values, reported[name].rows = int(values), int(rows)
+        elif line.startswith("pending "):
+            pending.append(line.split(" ")[1])
         elif line.startswith("copy "):
             break
-    return Observed(reported, int(event), idle)
+    return Observed(reported, int(event), idle, tuple(pending))
 
 
 def take_submit(reported, _, event, words):

@@ -33,7 +33,7 @@ from sdd.programs import find_programs
 from sdd.view.states import run_data
 
 SHOWN = ["dom.js", "run.js", "state.js", "names.js", "words.js", "cards.js", "map.js", "matrix.js", "past.js", "graph.js",
-         "timeline.js", "side.js", "room.js", "main.js"]
+         "hanging.js", "timeline.js", "side.js", "room.js", "main.js"]
 
 
 def part(name):

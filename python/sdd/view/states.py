@@ -117,7 +117,7 @@ def catalogue_data(programs, path):
     catalogue = catalogue_at(path)
     relations = [{"name": x.name, "columns": x.names, "key": x.key} for x in catalogue.relations]
     fragments = [{"name": x.name, "relation": x.relation, "key": catalogue.relation[x.relation].key_place} for x in catalogue.fragments]
-    classes = [{"name": x.name, "at": x.site, "list": 0} for x in catalogue.classes]
+    classes = [{"name": x.name, "at": x.site, "list": 0, "reads": ["D%d" % dm for dm in sorted({dm for _, dm in x.reads})]} for x in catalogue.classes]
     return {"graph": graph, "table": table, "relations": relations, "fragments": fragments, "classes": classes}
 
 

@@ -100,6 +100,7 @@ function classRow(view, site, reported, cls) {
   const key = "queue " + cls, most = view.opened.has(key) ? rest.length : 4;
   rest.slice(0, most).forEach(name => row.append(element("span", "queued", name)));
   if (rest.length > most) row.append(button("+" + (rest.length - most), "more", () => view.open(key)));
+  row.append(...hangingMarks(view, cls));
   return row;
 }
 

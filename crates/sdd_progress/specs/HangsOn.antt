@@ -1,0 +1,35 @@
+-- On which modules undeclared transactions hang while data modules are down, and who else goes on.
+use Rattle.std.specs.Prelude.{ℕ, ◌≡◌, ◌⊎◌, false, true, None, Some, [], length}
+use Rattle.sdd_obligations.specs.All.{AppliedBefore, Attempt, Committed, Input, IsClassOf, IsCommitted, IsModule, Log, U, active, contains, history, home, is_down, local_of, queue, setting_of}
+use Rattle.sdd_outage.specs.Tasks.{attempt}
+use Rattle.sdd_progress.specs.Committed.{WasCommitted}
+use Rattle.sdd_progress.specs.Outage.{IsSubmittedIn, NeedsAreUp}
+use Rattle.sdd_progress.specs.Quiet.{at_home}
+
+-- The first undeclared transaction that isn't committed hangs on a data module that is down:
+pub data HangsOn (g : Input) (log : Log) : Type 0 where
+  -- it is under way, and lacks an answer of the module
+  answer : (a : Attempt) (d : ℕ) → active (setting_of g U) 0 (local_of g U log) ≡ Some a → contains a.exchange.lacks d ≡ true
+      → IsModule g.catalogue d → is_down d log ≡ true → HangsOn g log
+  -- it isn't, since the one before it is not applied at the module
+  write : (t : Committed) (d : ℕ) → IsCommitted (history log) t → t.start.class ≡ 0 → ¬ AppliedBefore (history log) t.start.txn d (length (history log))
+      → IsModule g.catalogue d → is_down d log ≡ true → HangsOn g log
+  -- it isn't, since an attempt of a declared class is under way, which has to end before; and a module is down that this needs
+  turn : (c : ℕ) (a : Attempt) → IsClassOf g.catalogue c → active (setting_of g (home g.catalogue c)) c (at_home g c log) ≡ Some a
+      → ¬ NeedsAreUp g log (attempt c) → HangsOn g log
+
+-- So an outage of data modules leaves undone of undeclared transactions, and of others while one of these isn't done, only
+-- this:
+pub record HoldsUpUndeclared (g : Input) (log : Log) : Type 0 where
+  -- each is committed, or one hangs on a module that is down; and none is pending, or one hangs on such a module
+  pub committed : (n : ℕ) → IsSubmittedIn g log n 0 → WasCommitted (history log) n ⊎ HangsOn g log
+  pub none_pending : (queue (setting_of g U) 0 (local_of g U log) ≡ []) ⊎ HangsOn g log
+  -- what is committed of them is applied at each module that is up
+  pub applied : (t : Committed) (d : ℕ) → IsCommitted (history log) t → t.start.class ≡ 0 → IsModule g.catalogue d → is_down d log ≡ false
+      → AppliedBefore (history log) t.start.txn d (length (history log))
+  -- one that is under way lacks answers of modules alone that are down; and no attempt of a declared class is under way beside it
+  pub lacking : (a : Attempt) (d : ℕ) → active (setting_of g U) 0 (local_of g U log) ≡ Some a → contains a.exchange.lacks d ≡ true → is_down d log ≡ true
+  pub alone : (a : Attempt) (c : ℕ) → active (setting_of g U) 0 (local_of g U log) ≡ Some a → IsClassOf g.catalogue c
+      → active (setting_of g (home g.catalogue c)) c (at_home g c log) ≡ None
+  -- no attempt is under way of a declared class whose attempts need nothing that is down: what is pending of it waits for its turn
+  pub ended : (c : ℕ) → IsClassOf g.catalogue c → NeedsAreUp g log (attempt c) → active (setting_of g (home g.catalogue c)) c (at_home g c log) ≡ None
