@@ -9,7 +9,7 @@ use Rattle.sdd_run.proofs.Once.{each_once}
 use Rattle.sdd_run.proofs.Ordered.{alike, few, free_undisturbed, left, orderable, replayed, serial, starts}
 use Rattle.sdd_run.proofs.Reasons.{pending_are_true}
 use Rattle.sdd_run.proofs.RunOf.{known_of, permitted}
-use Rattle.sdd_run.proofs.Settled.{applied, nothing_lost, outage, outage_before, quiet_behind, settled, settled_before}
+use Rattle.sdd_run.proofs.Settled.{applied, nothing_lost, outage, outage_before, quiet_behind, settled, settled_before, undeclared, undeclared_before}
 use Rattle.sdd_run.proofs.WithRepliesOfOrder.{with_replies_of_order}
 
 pub if_ok : {A E : Type 0} (res : Result A E) (P Q : A → Type 0) → ((x : A) → P x → Q x) → IfOk res P → IfOk res Q
@@ -71,6 +71,8 @@ reported cat tables work log sound valid tabled the_log text is =
       settled_before = settled_before cat tables work sound valid tabled log the_log;
       outage = outage cat tables work sound valid tabled log the_log;
       outage_before = outage_before cat tables work sound valid tabled log the_log;
+      undeclared = undeclared cat tables work sound valid tabled log the_log;
+      undeclared_before = undeclared_before cat tables work sound valid tabled log the_log;
       left = λ links up copy there.
           left cat tables work sound valid tabled log the_log copy there (applied cat tables work sound valid tabled log the_log links up copy there);
     }

@@ -4,9 +4,13 @@ use Rattle.sdd_progress.proofs.Committed.{all_committed as all_committed_of}
 use Rattle.sdd_progress.proofs.Finished.{finished}
 use Rattle.sdd_progress.proofs.IdleAtRedeclares.{idle_at_redeclares}
 use Rattle.sdd_progress.proofs.NoneWaits.{is_idle}
+use Rattle.sdd_progress.proofs.HangsOn.{holds_up_undeclared}
 use Rattle.sdd_progress.proofs.Outage.{complete_is_still, costs_no_more, resting_is_still}
 use Rattle.sdd_progress.proofs.Settled.{resting_is_quiet}
+use Rattle.sdd_progress.specs.HangsOn.{HoldsUpUndeclared}
 use Rattle.sdd_progress.specs.Outage.{CostsNoMore}
+use Rattle.sdd_progress.specs.Premises.{IsIdleAtRedeclares}
+use Rattle.sdd_progress.specs.Quiet.{IsStill}
 use Rattle.sdd_run.proofs.AtRest.{quiet_at_rest}
 use Rattle.sdd_run.proofs.Goods.{few_ticks}
 use Rattle.sdd_run.proofs.RunOf.{lawful_lists, lists, submit_given, up}
@@ -76,21 +80,40 @@ module _ (cat : Catalogue) (tables : List (List Entry)) (work : Workload) (sound
 
   -- an outage costs no more than what needs the modules that are down, at the end and between two events
 
+  idle_before : IsIdleAtRedeclares (input_of cat tables work) log
+  idle_before =
+      idle_at_redeclares (input_of cat tables work) log submits.once the_log.lawful current_era
+      (up cat tables work sound valid tabled log the_log)
+
+  still_at_end : EndsQuiet (input_of cat tables work) log → IsStill (input_of cat tables work) log
+  still_at_end links = complete_is_still (input_of cat tables work) log submits.once the_log.lawful the_log.complete links
+
   pub outage : EndsQuiet (input_of cat tables work) log → CostsNoMore (input_of cat tables work) log
-  outage links =
+  outage links = costs_no_more (input_of cat tables work) log (still_at_end links) current_era idle_before
+
+  pub undeclared : EndsQuiet (input_of cat tables work) log → HoldsUpUndeclared (input_of cat tables work) log
+  undeclared links = holds_up_undeclared (input_of cat tables work) log (still_at_end links) current_era idle_before
+
+  idle_then : (before : Log) → Rests (input_of cat tables work) before → IsIdleAtRedeclares (input_of cat tables work) before
+  idle_then before rests =
       let g : Input = input_of cat tables work in
-      costs_no_more g log (complete_is_still g log submits.once the_log.lawful the_log.complete links) current_era
-      (idle_at_redeclares g log submits.once the_log.lawful current_era (up cat tables work sound valid tabled log the_log))
+      let were_up = up_at_redeclares g before (few_ticks (whole_in cat work) (length work.txns) work.events (events_valid cat work valid))
+      rests.lawful (timely cat tables work valid tabled) in
+      idle_at_redeclares g before submits.once rests.lawful (lawful_lists cat tables work sound valid tabled before rests.lawful) were_up
 
   pub outage_before : (later before : Log) → log ≡ later ++ before → Rests (input_of cat tables work) before
       → EndsQuiet (input_of cat tables work) before → CostsNoMore (input_of cat tables work) before
   outage_before later before is rests links =
       let g : Input = input_of cat tables work in
-      let their = lawful_lists cat tables work sound valid tabled before rests.lawful in
-      let were_up = up_at_redeclares g before (few_ticks (whole_in cat work) (length work.txns) work.events (events_valid cat work valid))
-      rests.lawful (timely cat tables work valid tabled) in
-      costs_no_more g before (resting_is_still g before submits.once rests links) their
-      (idle_at_redeclares g before submits.once rests.lawful their were_up)
+      costs_no_more g before (resting_is_still g before submits.once rests links)
+      (lawful_lists cat tables work sound valid tabled before rests.lawful) (idle_then before rests)
+
+  pub undeclared_before : (later before : Log) → log ≡ later ++ before → Rests (input_of cat tables work) before
+      → EndsQuiet (input_of cat tables work) before → HoldsUpUndeclared (input_of cat tables work) before
+  undeclared_before later before is rests links =
+      let g : Input = input_of cat tables work in
+      holds_up_undeclared g before (resting_is_still g before submits.once rests links)
+      (lawful_lists cat tables work sound valid tabled before rests.lawful) (idle_then before rests)
 
   pub settled : IsOrderable (whole_in cat work) (history log) → IsSerial (whole_in cat work) (history log) (order_of cat work log)
       → EndsQuiet (input_of cat tables work) log → NoneIsDown (whole_in cat work) log → TellsAllCommitted (report_of (input_of cat tables work) log)

@@ -24,6 +24,7 @@ use Rattle.sdd_world.specs.Copies.{rows_left}
 use Rattle.sdd_progress.specs.Committed.{AllCommitted}
 use Rattle.sdd_progress.specs.Few.{AreFewRejected}
 use Rattle.sdd_progress.specs.Free.{IsFree}
+use Rattle.sdd_progress.specs.HangsOn.{HoldsUpUndeclared}
 use Rattle.sdd_progress.specs.Outage.{CostsNoMore}
 use Rattle.sdd_run.specs.Free.{IsUndisturbed}
 use Rattle.sdd_run.specs.Settled.{EndsAtRest, EndsQuiet, LosesNothing, NoneIsDown, TellsAllCommitted}
@@ -146,6 +147,12 @@ pub record IsReportOn (cat : Catalogue) (work : Workload) (text : List ℕ) : Ty
   pub outage : EndsQuiet (input of_run) of_run.log → CostsNoMore (input of_run) of_run.log
   pub outage_before : AtEachMoment of_run (λ before. Rests (input of_run) before → EndsQuiet (input of_run) before
       → CostsNoMore (input of_run) before)
+  -- Of an undeclared transaction it leaves this undone: one that is pending hangs on a data module that is down, since it lacks
+  -- its answer, since the undeclared one before it isn't applied there, or since an attempt of a declared class needs it that
+  -- has to end first. Meanwhile no attempt is under way of a class whose attempts need nothing that is down.
+  pub undeclared : EndsQuiet (input of_run) of_run.log → HoldsUpUndeclared (input of_run) of_run.log
+  pub undeclared_before : AtEachMoment of_run (λ before. Rests (input of_run) before → EndsQuiet (input of_run) before
+      → HoldsUpUndeclared (input of_run) before)
   -- Where no data module is down at the end, each copy lists the rows that this database is left with.
   pub left : EndsQuiet (input of_run) of_run.log → NoneIsDown (whole_in cat work) of_run.log
       → (copy : CopyTable) → Contains (report of_run).copies copy
