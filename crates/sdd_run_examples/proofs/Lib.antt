@@ -1,0 +1,5 @@
+mod Alike
+mod AtPlaces
+mod Crossing
+mod Disturbed
+mod FreeBeside
