@@ -1,16 +1,18 @@
 #!/usr/bin/env python3
 """Compares `sdd1` with the reference on random input, and cuts every difference down to a small one.
 
-    tools/fuzz.py FROM TO [KIND ..] --program COMMAND [--other COMMAND] [--inside COMMAND] [--into FOLDER]
+    tools/fuzz.py FROM TO [KIND ..] --program COMMAND [--other COMMAND] [--inside COMMAND] [--ask COMMAND] [--into FOLDER]
 
 For each seed from FROM up to TO, without it, and each kind (all where none is named) a call is drawn: words and files.
 The reference of this repository (`sdd reference`) answers it in this process, the program by COMMAND, and so may a third one.
-Kind inside is for a program of its own, which takes a catalogue and a workload; it is left out without --inside.
+Kind inside is for a program of its own, which takes a catalogue and a workload, and kinds questions (robust CAT, needs CAT)
+and robust (robust CAT WORK) for another; they are left out without --inside, and without --ask.
 An answer is a status, what is written to standard error, and what standard output is. Of a call with a difference lines are
 taken away as long as there is one; what is left is printed, and with --into its files are kept in FOLDER. It ends with 1
 where there was a difference.
 
-Kinds: catalogue, faulty-catalogue, toml, plain, faulty-workload, run, lists, control, verify, make, words, inside.
+Kinds: catalogue, faulty-catalogue, toml, plain, faulty-workload, run, lists, control, verify, make, words, inside,
+questions, robust.
 """
 import argparse
 import collections
@@ -21,14 +23,19 @@ import sys
 from answers import NoProgram, Program, reference_answer
 import random_calls
 
+OPTION_OF = {"inside": "inside", "robust": "ask", "needs": "ask"}   # by the first word, by which option its program is given
+OPTION_OF_KIND = {"inside": "inside", "questions": "ask", "robust": "ask"}
+MAIN = "program"
+
 
 def difference(call, programs):
     """The program that answers otherwise, and both answers; or None."""
     wanted = reference_answer(*call)
+    option = OPTION_OF.get((call.words or [""])[0], MAIN)
     for program in programs:
-        if (call.words[:1] == ["inside"]) != program.is_inside:
+        if program.option != option:
             continue
-        got = program.answer(call.words[1:] if program.is_inside else call.words, call.files)
+        got = program.answer(call.words[1:] if option == "inside" else call.words, call.files)
         if got != wanted:
             return program, wanted, got
     return None
@@ -86,7 +93,8 @@ def main():
     asked.add_argument("kinds", nargs="*", metavar="KIND")
     asked.add_argument("--program", metavar="COMMAND", help="sdd1, as built and proved: crates/sdd1/out/sdd1")
     asked.add_argument("--other", metavar="COMMAND", help="a third program that is compared too")
-    asked.add_argument("--inside", metavar="COMMAND", help="a program that prints the states of a run")
+    asked.add_argument("--inside", metavar="COMMAND", help="a program that prints the states of a run: sdd1_inside")
+    asked.add_argument("--ask", metavar="COMMAND", help="a program that answers questions: sdd1_ask")
     asked.add_argument("--into", metavar="FOLDER", help="keeps the files of differences there")
     asked = asked.parse_args()
     try:
@@ -103,19 +111,23 @@ def programs_asked(asked):
     unknown = [k for k in asked.kinds if k not in random_calls.KINDS]
     if unknown:
         raise NoProgram("%s is no kind; kinds are %s" % (unknown[0], ", ".join(random_calls.KINDS)))
-    given = (("the program", asked.program), ("the other", asked.other), ("the program of states", asked.inside))
-    programs = [Program(name, command) for name, command in given if command is not None]
+    given = (("the program", MAIN, asked.program), ("the other", MAIN, asked.other), ("the program of states", "inside", asked.inside),
+             ("the program of questions", "ask", asked.ask))
+    programs = []
+    for name, option, command in given:
+        if command is not None:
+            programs.append(Program(name, command))
+            programs[-1].option = option
     if not programs:
-        raise NoProgram("give --program COMMAND, --other COMMAND, or --inside COMMAND")
-    for program in programs:
-        program.is_inside = program.name == given[2][0]
+        raise NoProgram("give --program COMMAND, --other COMMAND, --inside COMMAND, or --ask COMMAND")
     return programs
 
 
 def compare(asked, programs):
     """How many calls of each kind there were, and how many differed."""
     counts, differ = collections.Counter(), 0
-    kinds = asked.kinds or [k for k in random_calls.KINDS if (asked.inside if k == "inside" else asked.program or asked.other)]
+    given = {program.option for program in programs}
+    kinds = asked.kinds or [k for k in random_calls.KINDS if OPTION_OF_KIND.get(k, MAIN) in given]
     for seed in range(asked.first, asked.end):
         for kind in kinds:
             call = random_calls.KINDS[kind](random.Random("%s %d" % (kind, seed)))
