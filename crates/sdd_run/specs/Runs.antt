@@ -18,7 +18,6 @@ use Rattle.sdd_report.specs.Replies.{replies_along}
 use Rattle.sdd_report.specs.Report.{after_replies, report_text}
 use Rattle.sdd_report.specs.Trace.{trace}
 use Rattle.sdd_report.specs.declared.copies.CopyTable.{CopyTable}
-use Rattle.sdd_report.specs.declared.pending.Pending.{Pending}
 use Rattle.sdd_run.specs.Clocks.{HasLowClocks}
 use Rattle.sdd_world.specs.Copies.{rows_left, tables_of}
 use Rattle.sdd_progress.specs.Committed.{AllCommitted}
@@ -28,7 +27,7 @@ use Rattle.sdd_progress.specs.Outage.{CostsNoMore}
 use Rattle.sdd_run.specs.Free.{IsUndisturbed}
 use Rattle.sdd_run.specs.Settled.{EndsAtRest, EndsQuiet, LosesNothing, NoneIsDown, TellsAllCommitted}
 use Rattle.sdd_run.specs.ComesBefore.{ComesBefore, IsSubmittedBefore, times_in}
-use Rattle.sdd_run.specs.Reasons.{IsTruePending}
+use Rattle.sdd_run.specs.Reasons.{TellsPending}
 use Rattle.sdd_run.specs.Reports.{report_of}
 
 -- each class list with its protocol table
@@ -107,9 +106,9 @@ pub record IsReportOn (cat : Catalogue) (work : Workload) (text : List ℕ) : Ty
   pub low_clocks : HasLowClocks (input_of cat tables work) log
   -- Each transaction that was submitted stands in the order once, or is listed as pending once, and never both.
   pub nothing_lost : LosesNothing (report_of (input_of cat tables work) log)
-  -- Each that is listed as pending was submitted, isn't committed, and waits for what the text says: a place in the queue of a class,
-  -- a class at a data module, or a message of a transaction or data module, never one of U.
-  pub reasons : (one : Pending) → Contains (report_of (input_of cat tables work) log).pending one → IsTruePending (input_of cat tables work) log one
+  -- What is listed as pending is listed in the order of submission; each was submitted, isn't committed, and waits for what the text says:
+  -- a place in the queue of a class, a class at a data module, or a message of a transaction or data module, never one of U.
+  pub reasons : TellsPending (input_of cat tables work) log (report_of (input_of cat tables work) log).pending
   -- Where a settle or a redeclare is the last event, the links are quiet at the end. Where they are, and no data module is
   -- down then, each transaction that was submitted is committed, so it stands in the order, and none is pending.
   pub quiet : EndsAtRest work.events → EndsQuiet (input_of cat tables work) log
