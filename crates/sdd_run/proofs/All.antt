@@ -141,7 +141,7 @@ pub use Rattle.sdd_report.specs.declared.pending.Why.{Why}
 pub use Rattle.sdd_run.specs.Clocks.{HasLowClocks}
 pub use Rattle.sdd_run.specs.Free.{IsAnsweredWithin, IsUndisturbed}
 pub use Rattle.sdd_run.specs.Lent.{era_of_list}
-pub use Rattle.sdd_run.specs.Reasons.{IsFirstUnmet, IsInLine, IsTruePending, IsTrueReason, IsUnderway, ReadWaits, WaitsForHeld, attempt_at, counts_at_u, has_passed_at, in_line, is_asking_to_hold, is_unanswered, lacks_answer_of, queue_at_home, without_served}
+pub use Rattle.sdd_run.specs.Reasons.{IsFirstUnmet, IsInLine, IsTruePending, IsTrueReason, IsUnderway, ReadWaits, TellsPending, WaitsForHeld, WasFirst, attempt_at, counts_at_u, has_passed_at, in_line, is_asking_to_hold, is_unanswered, lacks_answer_of, queue_at_home, without_served}
 pub use Rattle.sdd_run.specs.Reports.{report_by, report_of}
 pub use Rattle.sdd_run.specs.Runs.{AreTables, EndsAtLimit, IsFreeInEach, IsReportOn, IsSummaryOn, eras_with_tables, first_input, input_of, order_of, plain_run}
 pub use Rattle.sdd_run.specs.Standings.{IsNumberedSite, IsStanding}

@@ -1,11 +1,61 @@
 -- What is listed as pending was submitted, isn't committed, and waits for what is said of it.
-use Rattle.sdd_run.proofs.All.{Contains, Contains-from_filter_map, D, FitsInput, Input, IsPermitted, IsTruePending, IsTrueReason, IsUnderway, Log, None, Option, Pending, Rec, Some, Standing, Submit, TxnNo, Waiting, Why, [], any_commit, ap, arith, commits, dm_no, false, history, if◌then◌else◌, list_any, not_both, option_map, pending_as, pending_by, pending_of, reason_of, refl, same_number, site_due, slice_get-get_or, standing_at, standing_at_t, standing_at_u, status_at, submitted_at, subst, sym, true, under_way, wait_at, waits_of, why_of, ℕ, ◌+◌, ◌<◌, ◌∙◌, ◌∷◌, ◌≡◌}
+use Rattle.sdd_run.proofs.All.{Contains, Contains-from_filter_map, D, FitsInput, Input, IsPermitted, IsTruePending, IsTrueReason, IsUnderway, List, Log, None, Option, Pending, Rec, Some, Standing, Submit, TellsPending, TxnNo, Waiting, WasFirst, Why, [], any_commit, ap, arith, commits, cons_option, dm_no, false, filter_map, history, if◌then◌else◌, list_any, not_both, option_map, pending_as, pending_by, pending_of, reason_of, refl, same_number, site_due, slice_get, slice_get-get_or, standing_at, standing_at_t, standing_at_u, status_at, submitted_at, subst, suc, sym, true, under_way, wait_at, waits_of, why_of, zero, ℕ, ◌+◌, ◌<◌, ◌∙◌, ◌∷◌, ◌≡◌}
 use Rattle.sdd_obligations.specs.All.{Attempt}
 use Rattle.sdd_obligations.specs.attempt.declared.standing.Standing.TheVariants as standings
 use Rattle.sdd_report.specs.declared.pending.Why.TheVariants as reasons
 use Rattle.sdd_run.proofs.Lowest.{best_is_first, least_wait, none_waits}
 use Rattle.sdd_run.proofs.ReadsThatWait.{at_own_module, its_wait, waits_not}
 use Rattle.sdd_run.proofs.Standings.{IsTrueStanding, LacksAnswer, each_is_true}
+
+-- what is made of the items of a list stands in their order
+
+record IsMadeAt {A B : Type 0} (f : A → Option B) (xs : List A) (y : B) : Type 0 where
+  place : ℕ
+  item : A
+  there : slice_get xs place ≡ Some item
+  is : f item ≡ Some y
+
+record AreMadeAt {A B : Type 0} (f : A → Option B) (xs : List A) (y z : B) : Type 0 where
+  first : IsMadeAt f xs y
+  second : IsMadeAt f xs z
+  before : first.place < second.place
+
+abbrev later : {A B : Type 0} (f : A → Option B) (x : A) (xs : List A) (y : B) → IsMadeAt f xs y → IsMadeAt f (x ∷ xs) y
+later f x xs y r = record { place = suc r.place; item = r.item; there = r.there; is = r.is }
+
+both_later : {A B : Type 0} (f : A → Option B) (x : A) (xs : List A) (y z : B) → AreMadeAt f xs y z → AreMadeAt f (x ∷ xs) y z
+both_later f x xs y z r = let l = r.before in record { first = later f x xs y r.first; second = later f x xs z r.second; before = omega (arith, l) }
+
+one_of : {A B : Type 0} (f : A → Option B) (x : A) (xs : List A) (w y : B) (i : ℕ) → f x ≡ Some w
+    → ((k : ℕ) → slice_get (filter_map f xs) k ≡ Some y → IsMadeAt f xs y) → slice_get (w ∷ filter_map f xs) i ≡ Some y → IsMadeAt f (x ∷ xs) y
+one_of f x xs w y zero p h e = record { place = 0; item = x; there = refl; is = p ∙ e }
+one_of f x xs w y (suc i) p h e = later f x xs y (h i e)
+
+made_at : {A B : Type 0} (f : A → Option B) (xs : List A) (i : ℕ) (y : B) → slice_get (filter_map f xs) i ≡ Some y → IsMadeAt f xs y
+made_at f [] i y e = cc
+made_at f (x ∷ xs) i y e =
+    elim (f x) as (λ o. f x ≡ o → slice_get (cons_option o (filter_map f xs)) i ≡ Some y → IsMadeAt f (x ∷ xs) y) [
+      | None ↦ λ p q. later f x xs y (made_at f xs i y q)
+      | Some w ↦ λ p q. one_of f x xs w y i p (λ k r. made_at f xs k y r) q
+    ] refl e
+
+two_of : {A B : Type 0} (f : A → Option B) (x : A) (xs : List A) (w y z : B) (i j : ℕ) → f x ≡ Some w → i < j
+    → ((k m : ℕ) → k < m → slice_get (filter_map f xs) k ≡ Some y → slice_get (filter_map f xs) m ≡ Some z → AreMadeAt f xs y z)
+    → slice_get (w ∷ filter_map f xs) i ≡ Some y → slice_get (w ∷ filter_map f xs) j ≡ Some z → AreMadeAt f (x ∷ xs) y z
+two_of f x xs w y z i zero p l h e g = absurd (omega (arith, l))
+two_of f x xs w y z zero (suc j) p l h e g =
+    record { first = record { place = 0; item = x; there = refl; is = p ∙ e }; second = later f x xs z (made_at f xs j z g); before = omega arith }
+two_of f x xs w y z (suc i) (suc j) p l h e g = both_later f x xs y z (h i j (omega (arith, l)) e g)
+
+made_both : {A B : Type 0} (f : A → Option B) (xs : List A) (i j : ℕ) (y z : B) → i < j → slice_get (filter_map f xs) i ≡ Some y
+    → slice_get (filter_map f xs) j ≡ Some z → AreMadeAt f xs y z
+made_both f [] i j y z l e g = cc
+made_both f (x ∷ xs) i j y z l e g =
+    elim (f x) as (λ o. f x ≡ o → slice_get (cons_option o (filter_map f xs)) i ≡ Some y → slice_get (cons_option o (filter_map f xs)) j ≡ Some z
+    → AreMadeAt f (x ∷ xs) y z) [
+      | None ↦ λ p q r. both_later f x xs y z (made_both f xs i j y z l q r)
+      | Some w ↦ λ p q r. two_of f x xs w y z i j p l (λ k m n s t. made_both f xs k m y z n s t) q r
+    ] refl e g
 
 module _ (g : Input) (log : Log) (permitted : IsPermitted g log) (good : FitsInput g) (idle : site_due g log ≡ None) where
   -- an attempt that is under way waits where its READ waits at the lowest module, or else lacks the answer of the lowest
@@ -88,7 +138,7 @@ module _ (g : Input) (log : Log) (permitted : IsPermitted g log) (good : FitsInp
       → IsListedFor (event, Submit n) one) [ true ↦ λ p q. cc | false ↦ λ p q. listed_with event n one why refl p q ] refl e
   listed_for (event, _) one e = cc
 
-  pub pending_are_true : (one : Pending) → Contains (pending_of (standing_at standing_at_u standing_at_t) g log) one → IsTruePending g log one
+  pending_are_true : (one : Pending) → Contains (pending_of (standing_at standing_at_u standing_at_t) g log) one → IsTruePending g log one
   pending_are_true one there =
       let x = Contains-from_filter_map (pending_by (standing_at standing_at_u standing_at_t) (submitted_at log) g log (history log)) (history log) one there in
       let f = listed_for x.0 one x.2 in
@@ -102,3 +152,20 @@ module _ (g : Input) (log : Log) (permitted : IsPermitted g log) (good : FitsInp
         reason = true_reason n (status_at (standing_at standing_at_u standing_at_t) g log (submitted_at log n) n) one.why
             (each_is_true g log permitted good idle (submitted_at log n) n) f.reason;
       }
+
+  in_order : (i j : ℕ) (one two : Pending) → i < j → slice_get (pending_of (standing_at standing_at_u standing_at_t) g log) i ≡ Some one
+      → slice_get (pending_of (standing_at standing_at_u standing_at_t) g log) j ≡ Some two → WasFirst (history log) one.txn.0 two.txn.0
+  in_order i j one two l e g2 =
+      let m = made_both (pending_by (standing_at standing_at_u standing_at_t) (submitted_at log) g log (history log)) (history log) i j one two l e g2 in
+      let x = listed_for m.first.item one m.first.is in
+      let y = listed_for m.second.item two m.second.is in
+      record {
+        first_place = m.first.place;
+        second_place = m.second.place;
+        first = ap (option_map (λ (r : ℕ × Rec). r.1)) m.first.there ∙ ap Some x.submission;
+        second = ap (option_map (λ (r : ℕ × Rec). r.1)) m.second.there ∙ ap Some y.submission;
+        before = m.before;
+      }
+
+  pub tells_pending : TellsPending g log (pending_of (standing_at standing_at_u standing_at_t) g log)
+  tells_pending = record { each = pending_are_true; in_order = in_order }

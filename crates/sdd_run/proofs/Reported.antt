@@ -7,7 +7,7 @@ use Rattle.sdd_run.proofs.LastHomes.{at_last_homes}
 use Rattle.sdd_run.proofs.LowClocks.{low_clocks}
 use Rattle.sdd_run.proofs.Once.{each_once}
 use Rattle.sdd_run.proofs.Ordered.{alike, few, free_undisturbed, left, orderable, replayed, serial, starts}
-use Rattle.sdd_run.proofs.Reasons.{pending_are_true}
+use Rattle.sdd_run.proofs.Reasons.{tells_pending}
 use Rattle.sdd_run.proofs.RunOf.{known_of, permitted}
 use Rattle.sdd_run.proofs.Settled.{applied, nothing_lost, outage, outage_before, quiet_behind, settled, settled_before, undeclared, undeclared_before}
 use Rattle.sdd_run.proofs.WithRepliesOfOrder.{with_replies_of_order}
@@ -64,7 +64,7 @@ reported cat tables work log sound valid tabled the_log text is =
       rejections = few cat tables work sound valid tabled log the_log;
       low_clocks = low_clocks cat tables work sound valid tabled log the_log.lawful;
       nothing_lost = nothing_lost cat tables work sound valid tabled log the_log fine along starting.one_submit;
-      reasons = pending_are_true (input_of cat tables work) log (permitted cat tables work sound valid tabled log the_log)
+      reasons = tells_pending (input_of cat tables work) log (permitted cat tables work sound valid tabled log the_log)
           (fits_given cat tables work sound valid work.events) (none_due (input_of cat tables work) log (over_at_end (input_of cat tables work) log the_log));
       quiet = quiet_behind cat tables work sound valid tabled log the_log;
       settled = settled cat tables work sound valid tabled log the_log fine along;

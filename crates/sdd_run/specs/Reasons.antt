@@ -1,8 +1,8 @@
 -- What is listed as pending, said of the log alone: transactions that were submitted and aren't committed, and what each of
 -- them waits for. How the lines are made isn't said here.
-use Rattle.std.specs.Prelude.{ℕ, suc, ◌-◌, ◌==◌, ◌≡◌, ◌<◌, ◌≤◌, ◌++◌, ◌∷◌, Bool, true, false, not, ◌&&◌, if◌then◌else◌, List, filter, map, slice_get, Option, Some, None}
+use Rattle.std.specs.Prelude.{ℕ, suc, ◌-◌, ◌==◌, ◌≡◌, ◌<◌, ◌≤◌, ◌++◌, ◌∷◌, Bool, true, false, not, ◌&&◌, if◌then◌else◌, List, Contains, filter, map, slice_get, Option, Some, None}
 use Rattle.std.specs.List.{AllByRecursion, list_any}
-use Rattle.sdd_obligations.specs.All.{Asks, Attempt, Cond, D, Input, IsClass, IsFrom1To, IsModule, IsSubmitted, Log, Queued, Read, T, TmCounts, Turn, U, Use, active, class_no, counts, head, head_of, history, home, last_served, local_of, numbers_to, passed, pipe, queue, setting_of, time_at, turn_at, txn_no, waits}
+use Rattle.sdd_obligations.specs.All.{Asks, Attempt, Cond, D, History, Input, IsClass, IsFrom1To, IsModule, IsSubmitted, Log, Queued, Read, T, TmCounts, Turn, U, Use, active, class_no, counts, head, head_of, history, home, last_served, local_of, numbers_to, passed, pipe, queue, setting_of, time_at, turn_at, txn_no, waits}
 use Rattle.sdd_obligations.specs.Turns.{Refused, Replied, Silent}
 use Rattle.sdd_obligations.specs.base.Words.{tail_of}
 use Rattle.sdd_report.specs.declared.pending.Pending.{Pending}
@@ -140,3 +140,17 @@ pub record IsTruePending (g : Input) (log : Log) (one : Pending) : Type 0 where
   pub submitted : IsSubmitted (history log) one.txn.0 place
   pub uncommitted : WasCommitted (history log) one.txn.0 → ⊥
   pub reason : IsTrueReason g log one.txn.0 one.why
+
+-- transaction n was submitted before transaction m
+pub record WasFirst (h : History) (n m : ℕ) : Type 0 where
+  pub first_place : ℕ
+  pub second_place : ℕ
+  pub first : IsSubmitted h n first_place
+  pub second : IsSubmitted h m second_place
+  pub before : first_place < second_place
+
+-- a list of such, in which what was submitted first stands first
+pub record TellsPending (g : Input) (log : Log) (left : List Pending) : Type 0 where
+  pub each : (one : Pending) → Contains left one → IsTruePending g log one
+  pub in_order : (i j : ℕ) (one two : Pending) → i < j → slice_get left i ≡ Some one → slice_get left j ≡ Some two
+      → WasFirst (history log) one.txn.0 two.txn.0

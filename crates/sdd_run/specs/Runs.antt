@@ -18,7 +18,6 @@ use Rattle.sdd_report.specs.Replies.{replies_along}
 use Rattle.sdd_report.specs.Report.{Report, after_replies, report_text}
 use Rattle.sdd_report.specs.Trace.{trace}
 use Rattle.sdd_report.specs.declared.copies.CopyTable.{CopyTable}
-use Rattle.sdd_report.specs.declared.pending.Pending.{Pending}
 use Rattle.sdd_run.specs.Clocks.{HasLowClocks}
 use Rattle.sdd_world.specs.Copies.{rows_left}
 use Rattle.sdd_progress.specs.Committed.{AllCommitted}
@@ -29,7 +28,7 @@ use Rattle.sdd_progress.specs.Outage.{CostsNoMore}
 use Rattle.sdd_run.specs.Free.{IsUndisturbed}
 use Rattle.sdd_run.specs.Settled.{EndsAtRest, EndsQuiet, LosesNothing, NoneIsDown, TellsAllCommitted}
 use Rattle.sdd_run.specs.ComesBefore.{ComesBefore, IsSubmittedBefore, times_in}
-use Rattle.sdd_run.specs.Reasons.{IsTruePending}
+use Rattle.sdd_run.specs.Reasons.{TellsPending}
 use Rattle.sdd_run.specs.Reports.{report_of}
 
 -- each class list with its protocol table
@@ -131,9 +130,9 @@ pub record IsReportOn (cat : Catalogue) (work : Workload) (text : List ℕ) : Ty
   pub low_clocks : HasLowClocks (input of_run) of_run.log
   -- Each transaction that was submitted stands in the order once, or is listed as pending once, and never both.
   pub nothing_lost : LosesNothing (report of_run)
-  -- Each that is listed as pending was submitted, isn't committed, and waits for what the text says: a place in the queue of a class,
-  -- a class at a data module, or a message of a transaction or data module, never one of U.
-  pub reasons : (one : Pending) → Contains (report of_run).pending one → IsTruePending (input of_run) of_run.log one
+  -- What is listed as pending is listed in the order of submission; each was submitted, isn't committed, and waits for what the text says:
+  -- a place in the queue of a class, a class at a data module, or a message of a transaction or data module, never one of U.
+  pub reasons : TellsPending (input of_run) of_run.log (report of_run).pending
   -- Where a settle or a redeclare is the last event, the links are quiet at the end. Where they are, and no data module is
   -- down then, each transaction that was submitted is committed, so it stands in the order, and none is pending.
   pub quiet : EndsAtRest work.events → EndsQuiet (input of_run) of_run.log
