@@ -247,6 +247,18 @@ def questions_call(rng):
     return Call([rng.choice(["robust", "needs"]), "cat"], {"cat": catalogue_text(cat).encode()})
 
 
+def robust_call(rng):
+    """Mostly small sets of transactions that meet often, and now and then a fault."""
+    if rng.random() < 0.75:
+        cat, work = small_transactions.CATALOGUE, small_transactions.drawn_set(rng)
+    else:
+        cat, work = inputs.workload(rng, rng.random() < 0.1)
+    files = files_of(cat, work)
+    if rng.random() < 0.1:
+        files["work"] = changed(rng, files["work"])
+    return Call(["robust", "cat", "work"], files)
+
+
 def make_call(rng):
     return Call(["make", str(rng.choice([rng.randrange(2**31), rng.randrange(100)])), str(rng.choice([0, 1, 5, 20, 64, 70]))], {})
 
@@ -266,4 +278,4 @@ KINDS = {"catalogue": catalogue_call, "faulty-catalogue": faulty_catalogue_call,
          "faulty-workload": faulty_workload_call, "run": run_call, "lists": lists_call, "control": control_call,
          "verify": verify_call, "make": make_call, "words": words_call, "inside": inside_call, "questions": questions_call,
          "robust": robust_call, "certify": certify_call}
-OWN_PROGRAMS = {"inside": "inside", "questions": "ask", "robust": "ask", "certify": "ask"}     # of the kinds that aren't calls of sdd1
+OWN_PROGRAMS = {"inside": "inside", "questions": "ask", "robust": "ask", "certify": "ask"}       # of the kinds that aren't calls of sdd1

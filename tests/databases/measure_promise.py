@@ -1,9 +1,9 @@
 #!/usr/bin/env python3
-"""Tries on PostgreSQL what `sdd robust` says of SmallBank: with both accounts in one row, and in two.
+"""Tries on PostgreSQL what `sdd robust` says of SmallBank, with both accounts in one row and in two, and of other applications.
 
-    tests/databases/measure_promise.py [--histories N] [--size N] [--level LEVEL] [--into FOLDER] [--program COMMAND]
+    tests/databases/measure_promise.py [APPLICATION ..] [--histories N] [--size N] [--level LEVEL] [--into FOLDER] [--program COMMAND]
 
-Of each of the two designs N histories (200) of as many transactions (200) are run from 12 connections at REPEATABLE READ, which is snapshot
+APPLICATION is smallbank where none is named, or tpcc, tatp, ycsb. Of each design N histories (200) of as many transactions (200) are run from 12 connections at REPEATABLE READ, which is snapshot
 isolation there, and judged. PostgreSQL is started here, from Debian's packages, in a scratch folder. With --into the histories are kept; those
 that are there are judged again and not run.
 """
@@ -22,23 +22,24 @@ from sdd.judge.history_command import read_files  # noqa: E402
 from sdd.programs import Program, add_program  # noqa: E402
 from servers import Postgres  # noqa: E402
 
-DESIGNS = {"one row": "apart", "two rows": "first"}
+DESIGNS = {"smallbank": ["apart", "first"], "tpcc": ["beside"], "tatp": ["merged"], "ycsb": ["scanner"]}
 
 
-def run_design(design, asked, address, folder, program):
+def run_design(application, design, asked, address, folder, program):
     made = []
     os.makedirs(folder, exist_ok=True)
     with tempfile.TemporaryDirectory(prefix="promise-") as room:
         for seed in range(1, asked.histories + 1):
-            paths = write_workload(os.path.join(room, str(seed)), "smallbank", asked.size, seed, design=design)
+            paths = write_workload(os.path.join(room, str(seed)), application, asked.size, seed, design=design)
             found = judged(how("postgres", address, asked.level, seed=seed, rest=1), *read_files(paths), os.path.join(folder, "%d.jsonl" % seed), program, kept=True)
             made.append({"engine": "postgres", "level": asked.level} | summary(found))
-            print(json.dumps({"design": design, "seed": seed} | {k: made[-1][k] for k in ("yes", "no", "cut", "words", "kinds")}), flush=True)
+            print(json.dumps({"application": application, "design": design, "seed": seed} | {k: made[-1][k] for k in ("yes", "no", "cut", "words", "kinds")}), flush=True)
     return made
 
 
 def main():
     asked = parser(__doc__)
+    asked.add_argument("applications", metavar="APPLICATION", nargs="*", choices=[*DESIGNS, []])
     asked.add_argument("--histories", metavar="N", type=count, default=200)
     asked.add_argument("--size", metavar="N", type=count, default=200)
     asked.add_argument("--level", default="repeatable-read")
@@ -52,8 +53,9 @@ def main():
     with contextlib.ExitStack() as stack:
         room = asked.into or stack.enter_context(tempfile.TemporaryDirectory(prefix="promise-"))
         address = stack.enter_context(Postgres()).address
-        for words, design in DESIGNS.items():
-            rows.append("%s (%s): %s" % (words, design, row_of(run_design(design, asked, address, os.path.join(room, design), program))))
+        for application, design in ((x, design) for x in asked.applications or ["smallbank"] for design in DESIGNS[x]):
+            made = run_design(application, design, asked, address, os.path.join(room, application, design), program)
+            rows.append("%s %s: %s" % (application, design, row_of(made)))
     print("\n".join(rows))
     return 0
 
