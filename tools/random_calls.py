@@ -177,18 +177,6 @@ def inside_call(rng):
     return Call(["inside", "cat", "work"], files_of(*inputs.scheduled(rng, rng.random() < 0.3)))
 
 
-def robust_call(rng):
-    """Mostly small sets of transactions that meet often, and now and then a fault."""
-    if rng.random() < 0.75:
-        cat, work = small_transactions.CATALOGUE, small_transactions.drawn_set(rng)
-    else:
-        cat, work = inputs.workload(rng, rng.random() < 0.1)
-    files = files_of(cat, work)
-    if rng.random() < 0.1:
-        files["work"] = changed(rng, files["work"])
-    return Call(["robust", "cat", "work"], files)
-
-
 def lists_call(rng):
     return Call([rng.choice(["run", "run", "plain"]), "cat", "work"], files_of(*inputs.scheduled(rng, True)))
 
