@@ -1,3 +1,6 @@
 pub mod Members
 pub mod Leading
 pub mod Pivots
+pub mod KeyRanges
+pub mod Settings
+pub mod Workloads

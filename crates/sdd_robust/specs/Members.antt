@@ -1,6 +1,9 @@
 -- A workload's transactions, each with its place and its accesses.
-use Rattle.std.specs.Prelude.{List, map}
+use Rattle.std.specs.Prelude.{ℕ, ◌+◌, List, [], ◌∷◌, map}
 use Rattle.std.specs.Borrow.{Bor}
+use Rattle.sdd_lang.specs.All.{Catalogue, Database}
+use Rattle.sdd_lang.specs.declared.transaction.Txn.{Txn}
+use Rattle.sdd_robust_laws.specs.Accesses.{accesses}
 use Rattle.sdd_robust_laws.specs.declared.access.Access.{Access}
 use Rattle.sdd_robust.specs.declared.member.Member.{Member}
 
@@ -11,3 +14,13 @@ lent members = map (λ m. m.now) members
 -- what they access
 abbrev pub kinds : List Member → List (List Access)
 kinds members = map (λ m. m.accesses) members
+
+-- the transactions from a place on
+abbrev pub members_from : Catalogue → List Txn → Database → ℕ → List Txn → List Member
+members_from cat work first place [] = []
+members_from cat work first place (txn ∷ txns) =
+    record { place = place; accesses = accesses cat work first txn } ∷ members_from cat work first (place + 1) txns
+
+-- all of them
+abbrev pub members_of : Catalogue → List Txn → Database → List Member
+members_of cat work first = members_from cat work first 0 work

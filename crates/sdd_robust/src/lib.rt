@@ -1,17 +1,27 @@
 //! The test by which the transactions of a workload, each any number of times, are shown to be robust
 //! under snapshot isolation.
 //!
-//! What a run under snapshot isolation is, when a workload is robust, and what the test asks, stands in
-//! `sdd_robust_laws`, with the law that a workload which passes is robust. The one contract to the layer
-//! above is `first_pivot`: no pivot is found exactly where none of the transactions is dangerous, and one
-//! that is found is dangerous by the two that are told with it (`specs/Pivots.antt`).
+//! What a run under snapshot isolation is, when a workload is robust, what its transactions may read and
+//! change, and what the test asks, stands in `sdd_robust_laws`, with the law that a workload which passes
+//! is robust. To the layer above: `members` gives exactly what the transactions of a workload access;
+//! `find_pivot` finds none only where the workload is robust, and a pivot that it finds is dangerous by the
+//! two that are told with it (`specs/Workloads.antt`). `first_pivot` is the test over any accesses, and
+//! exact (`specs/Pivots.antt`).
 #![tactic(auto)]
 
+mod accessing;
 mod beside;
+mod columns;
+mod judging;
+mod key_range;
 mod linked;
+mod listing;
 mod meeting;
 mod member;
 mod pivot;
+mod staying;
 
+pub use judging::{Places, find_pivot, members};
+pub use key_range::KeyRange;
 pub use member::{Accesses, Member};
 pub use pivot::{Pivot, first_pivot};
