@@ -7,11 +7,13 @@
 //! that is found is dangerous by the two that are told with it (`specs/Pivots.antt`).
 #![tactic(auto)]
 
-mod beside;
 mod linked;
+mod meanwhile;
 mod meeting;
 mod member;
 mod pivot;
 
+pub use meanwhile::beside;
+pub use meeting::{conflict, may_miss, reads_from};
 pub use member::{Accesses, Member};
 pub use pivot::{Pivot, first_pivot};
