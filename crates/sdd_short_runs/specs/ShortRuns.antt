@@ -1,6 +1,6 @@
--- Short runs: a transaction begins, others run one after the other, and the first one ends. The run of the first, the outer
--- one, has the number 0, and the others have 1, 2, .. in their order.
-use Rattle.std.specs.Prelude.{ℕ, suc, List, [], ◌∷◌, ◌++◌, fold, map, slice_index_or}
+-- Short runs: a transaction begins, others run one after the other, and the first one ends. The runs of the inner ones have the
+-- numbers 0, 1, .. in their order, and that of the outer one has the next number.
+use Rattle.std.specs.Prelude.{ℕ, suc, List, [], ◌∷◌, fold, length, map, slice_index_or}
 use Rattle.std.specs.Borrow.{Bor}
 use Rattle.sdd_lang.specs.All.{Catalogue, Database, after_changes, effect}
 use Rattle.sdd_lang.specs.declared.effect.Effect.{Effect}
@@ -25,14 +25,11 @@ effects_in_turn cat db (txn ∷ rest) =
 
 -- the transaction that a run is of
 abbrev pub txn_of : Txn → List Txn → ℕ → Txn
-txn_of outer inner n = slice_index_or (outer ∷ inner) n outer
+txn_of outer inner n = slice_index_or inner n outer
 
 -- the effects by the numbers of the runs: while the outer one runs, no change of it is made
-abbrev pub effects_of : Catalogue → Database → Txn → List Txn → List Effect
-effects_of cat first outer inner = effect cat first outer ∷ effects_in_turn cat first inner
-
 abbrev pub effect_of : Catalogue → Database → Txn → List Txn → ℕ → Effect
-effect_of cat first outer inner n = slice_index_or (effects_of cat first outer inner) n (effect cat first outer)
+effect_of cat first outer inner n = slice_index_or (effects_in_turn cat first inner) n (effect cat first outer)
 
 -- the log with runs of so many, one after the other, the first of which has this number
 abbrev pub in_turn : ℕ → List Txn → Log → Log
@@ -40,7 +37,7 @@ in_turn n [] log = log
 in_turn n (txn ∷ rest) log = in_turn (suc n) rest (ends n ∷ begins n ∷ log)
 
 abbrev pub short_log : List Txn → Log
-short_log inner = ends 0 ∷ in_turn 1 inner (begins 0 ∷ [])
+short_log inner = ends (length inner) ∷ in_turn 0 inner (begins (length inner) ∷ [])
 
 -- the short run of these transactions is like no serial one
 abbrev pub IsShortCounterexample : Catalogue → List Txn → Database → Txn → List Txn → Type 0

@@ -21,6 +21,7 @@ struct MissedRead<'a> {
 }
 
 /// The candidates of one pivot that are found, no more than so many.
+#[derive(Drop)]
 struct Search<'a> {
     alloc: Global,
     pivot: &'a Member,

@@ -6,11 +6,11 @@ ghost use Rattle.std.specs.Map.{keys_of};
 ghost use Rattle.std.specs.Ordering.{is_eq};
 ghost use Rattle.sdd_lang.specs.All.{FitsTxn, effect, item_cmp, item_of};
 ghost use Rattle.sdd_robust_laws.specs.Runs.{change_one_item, succeeds};
-ghost use Rattle.sdd_short_runs.specs.Matching.{lent_changes};
+ghost use Rattle.sdd_changed.specs.Matching.{lent_changes};
 ghost use Rattle.sdd_short_runs.specs.ShortRuns.{after_effects, effects_in_turn, lent_txns};
 
-use crate::changed::Changed;
-use crate::matching::relation_of;
+use sdd_base::is_same;
+use sdd_changed::{Changed, relation_of};
 use sdd_lang::{Catalogue, Change, Effect, NoMemory, Reply, Txn, effect_over};
 use sdd_plain::Plain;
 use std::alloc::Global;
@@ -150,4 +150,15 @@ pub(crate) fn all_commit(catalogue: &Catalogue, outer: &Effect, inner: &[Effect]
         && inner
             .iter()
             .all(|effect| may_end_within(catalogue, effect, outer))
+}
+
+/// Whether two replies are one, where the first is no failure.
+pub(crate) fn is_same_reply(a: &Reply, b: &Reply) -> bool
+    requires { succeeds a.now ≡ true }
+    ensures { IsTrue result ↔ (a.now ≡ b.now) }
+{
+    match (a, b) {
+        (Reply::Rows(x), Reply::Rows(y)) => is_same(x, y),
+        _ => false,
+    }
 }

@@ -7,11 +7,7 @@
 
 mod candidates;
 mod carrying;
-mod changed;
-mod comparing;
 mod finding;
-mod matching;
 mod orders;
-mod own_conditions;
 
 pub use finding::{ShortRun, find_counterexample};

@@ -1,13 +1,21 @@
 //! Whether some order of runs, one after the other, gives their replies and the last database.
-use crate::carrying::{add_changes, effect_after, succeeds};
-use crate::changed::Changed;
-use crate::comparing::{are_same_where, is_same_reply};
+ghost use Rattle.std.specs.Prelude.{◌≡◌, ◌<◌, ◌++◌, ℕ, Contains, IfOk, length, true};
+ghost use Rattle.sdd_lang.specs.All.{effect};
+ghost use Rattle.sdd_lang.specs.declared.effect.Effect.{Effect};
+ghost use Rattle.sdd_lang.specs.declared.transaction.Txn.{Txn};
+ghost use Rattle.sdd_changed.specs.Matching.{lent_changes};
+ghost use Rattle.sdd_short_runs.specs.Orders.{HasOrder};
+ghost use Rattle.sdd_short_runs.specs.Tried.{IsTried, database_with, effect_at, last_database, txn_at, without};
+
+use crate::carrying::{add_changes, effect_after, is_same_reply};
+use sdd_changed::{Changed, are_same_where};
 use sdd_lang::{Catalogue, Change, Effect, NoMemory, Txn};
 use sdd_plain::Plain;
 use std::alloc::Global;
 
 /// A run: its transactions and their effects, by their numbers, and the changes that were made to the
 /// first database.
+#[derive(Drop)]
 pub(crate) struct Run<'a> {
     pub catalogue: &'a Catalogue,
     pub base: &'a Plain,
@@ -17,17 +25,22 @@ pub(crate) struct Run<'a> {
 }
 
 /// Whether the changes make of the first database what the run made of it.
-fn is_last(alloc: Global, run: &Run, made: &[&Change]) -> Result<bool, NoMemory> {
+fn is_last(alloc: Global, run: &Run, made: &[&Change]) -> Result<bool, NoMemory>
+    requires { IsTried run.now }
+    ensures { IfOk result (λ same. last_database run.now ≡ database_with run.now made.now → same ≡ true) }
+{
     let last = Changed::new(run.catalogue, run.base, run.changes);
     let other = Changed::new(run.catalogue, run.base, made);
-    Ok(
-        are_same_where(alloc, run.catalogue, &last, &other, run.changes)?
-            && are_same_where(alloc, run.catalogue, &last, &other, made)?,
-    )
+    if !are_same_where(alloc, run.catalogue, &last, &other, run.changes)? {
+        return Ok(false);
+    }
+    are_same_where(alloc, run.catalogue, &last, &other, made)
 }
 
 /// The numbers but one.
-fn without(alloc: Global, numbers: &[usize], number: usize) -> Result<Vec<usize>, NoMemory> {
+fn without(alloc: Global, numbers: &[usize], number: usize) -> Result<Vec<usize>, NoMemory>
+    ensures { IfOk result (λ rest. rest.items ≡ without numbers.now number) }
+{
     let mut rest = Vec::new(alloc);
     'numbers: for other in numbers {
         if *other != number {
@@ -42,47 +55,59 @@ fn with_effect<'a>(
     alloc: Global,
     made: &[&'a Change],
     effect: &'a Effect,
-) -> Result<Vec<&'a Change>, NoMemory> {
+) -> Result<Vec<&'a Change>, NoMemory>
+    ensures { IfOk result (λ changes. lent_changes changes.items ≡ lent_changes made.now ++ effect.now.changes) }
+{
     let mut changes = Vec::new(alloc);
     changes.extend_from_slice(made)?;
     add_changes(&mut changes, effect)?;
     Ok(changes)
 }
 
+/// The effect of a run's transaction after changes.
+fn effect_of(alloc: Global, run: &Run, made: &[&Change], number: usize) -> Result<Effect, NoMemory>
+    requires tried { IsTried run.now }
+    requires there { number < length run.now.txns.now }
+    ensures { IfOk result (λ found. (d : Txn) → found ≡ effect run.now.catalogue.now (database_with run.now made.now) (txn_at run.now d number)) }
+{
+    effect_after(alloc, run.catalogue, run.base, made, run.txns[number])
+}
+
+/// Whether the effect has the reply of the run of this number.
+fn has_reply(run: &Run, number: usize, effect: &Effect) -> bool
+    requires tried { IsTried run.now }
+    requires there { number < length run.now.effects.now }
+    ensures { (d : Effect) → effect.now.reply ≡ (effect_at run.now d number).reply → result ≡ true }
+{
+    is_same_reply(&run.effects[number].reply, &effect.reply)
+}
+
 /// Whether some order of those that are left, after these changes, gives their replies and ends in the
-/// database of the run.
-#[cycle(orders)]
+/// database of the run. Costs an effect for each beginning of an order that gives their replies.
 pub(crate) fn has_order(
     alloc: Global,
     run: &Run,
     left: &[usize],
     made: &[&Change],
-) -> Result<bool, NoMemory> {
+) -> Result<bool, NoMemory>
+    requires tried { IsTried run.now }
+    requires there { (n : ℕ) → Contains left.now n → n < length run.now.txns.now }
+    ensures { IfOk result (λ found. (t : Txn) (e : Effect)
+        → HasOrder run.now.catalogue.now (txn_at run.now t) (effect_at run.now e) (last_database run.now) (database_with run.now made.now) left.now
+        → found ≡ true) }
+{
     if left.is_empty() {
         return is_last(alloc, run, made);
     }
     'left: for number in left {
-        if has_order_from(alloc, run, left, made, *number)? {
-            return Ok(true);
+        let effect = effect_of(alloc, run, made, *number)?;
+        if has_reply(run, *number, &effect) {
+            let rest = without(alloc, left, *number)?;
+            let changes = with_effect(alloc, made, &effect)?;
+            if has_order(alloc, run, rest.as_slice(), changes.as_slice())? {
+                return Ok(true);
+            }
         }
     }
     Ok(false)
-}
-
-/// Whether some order of those that are left, with this one as the first, does.
-#[cycle(orders)]
-fn has_order_from(
-    alloc: Global,
-    run: &Run,
-    left: &[usize],
-    made: &[&Change],
-    number: usize,
-) -> Result<bool, NoMemory> {
-    let effect = effect_after(alloc, run.catalogue, run.base, made, run.txns[number])?;
-    if !is_same_reply(&run.effects[number].reply, &effect.reply) {
-        return Ok(false);
-    }
-    let rest = without(alloc, left, number)?;
-    let changes = with_effect(alloc, made, &effect)?;
-    has_order(alloc, run, rest.as_slice(), changes.as_slice())
 }

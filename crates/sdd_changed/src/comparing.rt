@@ -1,11 +1,11 @@
 //! Whether two databases are one, as far as changes may tell them apart.
-ghost use Rattle.std.specs.Prelude.{◌≡◌, ⊥, IfOk, IsTrue, false};
+ghost use Rattle.std.specs.Prelude.{◌≡◌, IfOk, true};
 
 use crate::changed::Changed;
 use crate::matching::relation_of;
 use crate::own_conditions::has_key;
 use sdd_base::is_same;
-use sdd_lang::{Catalogue, Change, Entry, FragNo, NoMemory, RelNo, Reply, Source};
+use sdd_lang::{Catalogue, Change, Entry, FragNo, NoMemory, RelNo, Source};
 use std::alloc::Global;
 
 fn is_same_entry(a: &Entry, b: &Entry) -> bool
@@ -55,7 +55,7 @@ fn key_column(catalogue: &Catalogue, rel: RelNo) -> u32 {
 }
 
 /// Whether both databases have the same rows wherever one of these changes is.
-pub(crate) fn are_same_where(
+pub fn are_same_where(
     alloc: Global,
     catalogue: &Catalogue,
     a: &Changed,
@@ -71,15 +71,4 @@ pub(crate) fn are_same_where(
         }
     }
     Ok(true)
-}
-
-/// Whether two replies are one; false where one is a failure.
-pub(crate) fn is_same_reply(a: &Reply, b: &Reply) -> bool
-    requires { succeeds a.now ≡ true }
-    ensures { a.now ≡ b.now → result ≡ true }
-{
-    match (a, b) {
-        (Reply::Rows(x), Reply::Rows(y)) => is_same(x, y),
-        _ => false,
-    }
 }

@@ -1,10 +1,10 @@
 //! The rows that meet conditions, of a database with changes that are kept apart from it.
-ghost use Rattle.std.specs.Prelude.{◌≡◌, ◌==◌, ◌×◌, [], IfOk, OnOk, filter, fold, map};
+ghost use Rattle.std.specs.Prelude.{◌≡◌, ◌==◌, [], IfOk, OnOk, filter, fold, map};
 ghost use Rattle.std.specs.List.Sorted.{IsStrictlySortedBy};
 ghost use Rattle.std.specs.Map.{keys_of};
 ghost use Rattle.sdd_lang.specs.All.{Database, after_changes, chosen, entries_of, fragment_at, item_cmp, item_of};
 ghost use Rattle.sdd_plain.specs.Lent.{as_of};
-ghost use Rattle.sdd_short_runs.specs.Matching.{entered, lent_changes, with_matching};
+ghost use Rattle.sdd_changed.specs.Matching.{entered, lent_changes, with_matching};
 
 use sdd_lang::{
     Catalogue, Change, Condition, Entries, Entry, FragNo, NoMemory, Parcel, RelNo, Row, Source,
@@ -17,7 +17,7 @@ use std::collections::BTreeMap;
 type Rows = BTreeMap<(u32, i64), Row>;
 
 /// The relation of a fragment, or 0 where the fragment isn't there. Number 0 stands for fragment 1.
-pub(crate) fn relation_of(catalogue: &Catalogue, frag: FragNo) -> u32
+pub fn relation_of(catalogue: &Catalogue, frag: FragNo) -> u32
     ensures { result ≡ (fragment_at catalogue.now frag.0).rel.0 }
 {
     let number = frag.0.max(1);

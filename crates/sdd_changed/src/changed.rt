@@ -5,8 +5,7 @@ ghost use Rattle.std.specs.Map.{keys_of};
 ghost use Rattle.sdd_lang.specs.All.{after_changes, chosen_in, item_cmp, may_join, rows_lent, rows_of};
 ghost use Rattle.sdd_lang.specs.Source.{found_in};
 ghost use Rattle.sdd_plain.specs.Parts.{standing};
-ghost use Rattle.sdd_short_runs.specs.Matching.{lent_changes};
-ghost use Rattle.sdd_short_runs.specs.Parts.{lists_of};
+ghost use Rattle.sdd_changed.specs.Matching.{lent_changes};
 
 use crate::matching::find_matching;
 use crate::own_conditions::own_conditions;
@@ -21,7 +20,8 @@ use std::marker::Model;
 
 /// A database with changes that were made to it, in their order. They are kept apart from its rows, so
 /// that these stay for others.
-pub(crate) struct Changed<'a> {
+#[derive(Drop)]
+pub struct Changed<'a> {
     catalogue: &'a Catalogue,
     base: &'a Plain,
     changes: &'a [&'a Change],
@@ -31,7 +31,7 @@ impl<'a> Model for Changed<'a> {
     ghost use Rattle.std.specs.List.Sorted.{IsStrictlySortedBy};
     ghost use Rattle.std.specs.Map.{keys_of};
     ghost use Rattle.sdd_lang.specs.All.{Database, after_changes, item_cmp};
-    ghost use Rattle.sdd_short_runs.specs.Matching.{lent_changes};
+    ghost use Rattle.sdd_changed.specs.Matching.{lent_changes};
 
     ghost Value = { Database };
 
@@ -76,7 +76,7 @@ fn lend_all<'a>(alloc: Global, lists: &'a [RowList]) -> Result<Parts<'a>, NoMemo
 
 impl<'a> Changed<'a> {
     /// The database with these changes.
-    pub(crate) fn new(catalogue: &'a Catalogue, base: &'a Plain, changes: &'a [&'a Change]) -> Self
+    pub fn new(catalogue: &'a Catalogue, base: &'a Plain, changes: &'a [&'a Change]) -> Self
         requires { IsStrictlySortedBy item_cmp (keys_of base.now.value) }
         ensures { result ≡ after_changes catalogue.now base.now.value (lent_changes changes.now) }
     {

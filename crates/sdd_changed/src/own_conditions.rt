@@ -1,7 +1,7 @@
 //! Conditions on the rows of one relation.
 ghost use Rattle.std.specs.Prelude.{◌≡◌, ◌∷◌, [], IfOk, map};
 ghost use Rattle.sdd_lang.specs.All.{restrictions_of};
-ghost use Rattle.sdd_short_runs.specs.Conditions.{has_key, on_first_part, own_conditions};
+ghost use Rattle.sdd_changed.specs.Conditions.{has_key, on_first_part, own_conditions};
 
 use sdd_lang::{Condition, NoMemory, Op, Ref, Restriction, Value, restrictions_of};
 use std::alloc::Global;

@@ -1,0 +1,4 @@
+mod All
+pub mod ShortLogs
+pub mod Orders
+pub mod Counterexamples

@@ -1,0 +1,4 @@
+pub mod ShortRuns
+pub mod Orders
+pub mod Found
+pub mod Tried
