@@ -15,5 +15,5 @@ pub use Rattle.sdd_snapshot_replay.specs.Logs.Step.{begins, ends}
 pub use Rattle.sdd_snapshot_replay.specs.Replays.{EachOnce, IsReplay}
 pub use Rattle.std.proofs.Common.{All, Bool, Contains, List, None, Option, Some, [], ap, arith, cond, drop, eq-eqb, eqb-true, false, filter, flat_map, fold, inl, inr, length, map, ne_eqb, not, refl, slice_index_or, subst, suc, sym, take, true, zero, ℕ, ◌&&◌, ◌++◌, ◌+◌, ◌<◌, ◌==◌, ◌∙◌, ◌∷◌, ◌≡◌, ◌≢◌, ◌≤◌, ◌⊎◌}
 pub use Rattle.std.proofs.lemmas.Bool.{and_from, and_parts, not-true}
-pub use Rattle.std.proofs.lemmas.List.{fold-append}
+pub use Rattle.std.proofs.lemmas.List.Sums.{fold-append}
 pub use Rattle.std.specs.List.{list_all, list_any, range_with_len}

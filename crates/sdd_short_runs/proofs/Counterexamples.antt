@@ -4,6 +4,9 @@ use Rattle.sdd_short_runs.proofs.ShortLogs.{AreNext, AreNumbered, IsBegun, IsNex
 
 -- numbers of a list
 
+from_zero : (n : ℕ) → 0 + n ≡ n
+from_zero n = omega arith
+
 numbered : {X : Type 0} (f : ℕ → X) (n : ℕ) (xs : List X) (d : X) → ((i : ℕ) → f (n + i) ≡ slice_index_or xs i d) → AreNumbered f n xs
 numbered f n [] d are = tt
 numbered f n (x ∷ xs) d are = (
@@ -51,6 +54,13 @@ below_end a (suc n) m h =
       | inr later ↦ (let l = below_end (a + 1) n m later in omega arith)
     ]
 
+-- the numbers below another one
+all_below : (n m : ℕ) → m < n → Contains (range_with_len 0 n) m
+all_below n m l = in_range 0 n m (omega arith) (omega arith)
+
+are_below : (n m : ℕ) → Contains (range_with_len 0 n) m → m < n
+are_below n m h = let l = below_end 0 n m h in omega arith
+
 module _ (cat : Catalogue) (first : Database) (outer : Txn) (inner : List Txn) where
   abbrev k : ℕ
   k = length inner
@@ -79,8 +89,7 @@ module _ (cat : Catalogue) (first : Database) (outer : Txn) (inner : List Txn) w
   next_all n [] log db is texts made ok = tt
   next_all n (t ∷ rest) log db is texts made ok =
       let both = and_parts (commits (effect cat db t)) (list_all commits (effects_in_turn cat (after_changes cat db (effect cat db t).changes) rest)) ok in
-      let own_ok = and_parts (succeeds (effect cat db t).reply) (not (change_one_item cat (effect cat db t) own)) both.0 in
-      (
+      let own_ok = and_parts (succeeds (effect cat db t).reply) (not (change_one_item cat (effect cat db t) own)) both.0 in (
         record {
           saw = ap (λ d. effect cat d (txns n)) (sym is) ∙ ap (effect cat db) texts.0 ∙ sym made.0;
           success = ap (λ (e : Effect). succeeds e.reply) made.0 ∙ own_ok.0;
@@ -100,13 +109,13 @@ module _ (cat : Catalogue) (first : Database) (outer : Txn) (inner : List Txn) w
     log = in_turn 0 inner (begins k ∷ [])
 
     numbered_effects : AreNumbered effects 0 (effects_in_turn cat first inner)
-    numbered_effects = numbered effects 0 (effects_in_turn cat first inner) own (λ i. refl)
+    numbered_effects = numbered effects 0 (effects_in_turn cat first inner) own (λ i. ap effects (from_zero i))
 
     begun : IsBegun cat txns first effects k k log
     begun =
-        all_more cat txns first effects k 0 inner (begins k ∷ []) refl
+        all_more cat txns first effects k 0 inner (begins k ∷ []) (from_zero k)
         (begins_alone cat txns first effects k (ap (effect cat first) outer_txn ∙ sym outer_effect))
-        (next_all 0 inner (begins k ∷ []) first refl (numbered txns 0 inner outer (λ i. refl)) numbered_effects parts.1)
+        (next_all 0 inner (begins k ∷ []) first refl (numbered txns 0 inner outer (λ i. ap txns (from_zero i))) numbered_effects parts.1)
 
     last_is : database cat first effects (short_log inner) ≡ after_effects cat first (effects_in_turn cat first inner ++ own ∷ [])
     last_is =
@@ -121,8 +130,8 @@ module _ (cat : Catalogue) (first : Database) (outer : Txn) (inner : List Txn) w
           order = order;
           of = record {
             same = λ n. (
-              (λ h. (r.same n).0 (are_ended cat txns first effects k log begun n (below_end 0 (suc k) n h))),
-              (λ h. in_range 0 (suc k) n (omega arith) (ended_are cat txns first effects k log begun n ((r.same n).1 h)))
+              (λ h. (r.same n).0 (are_ended cat txns first effects k log begun n (are_below (suc k) n h))),
+              (λ h. all_below (suc k) n (ended_are cat txns first effects k log begun n ((r.same n).1 h))),
             );
             once = r.once;
           };

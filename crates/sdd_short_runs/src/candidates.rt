@@ -169,6 +169,30 @@ impl<'a> Search<'a> {
         }
         self.add_threes(first, last)
     }
+
+    /// Adds the paths that begin with one.
+    fn add_from(
+        &mut self,
+        reads: &[MissedRead],
+        first: usize,
+        length: usize,
+    ) -> Result<(), NoMemory> {
+        if self.is_full() {
+            return Ok(());
+        }
+        let count = self.beside.len();
+        match self.beside.get(first) {
+            Some(member) => {
+                let last = last_after(self.alloc, reads, *member, count)?;
+                if last.is_empty() {
+                    Ok(())
+                } else {
+                    self.add_paths(first, last.as_slice(), length)
+                }
+            }
+            None => Ok(()),
+        }
+    }
 }
 
 /// The first candidates of a pivot with so many others, at most so many of them. The others conflict
@@ -194,13 +218,7 @@ pub(crate) fn candidates_of<'a>(
         return Ok(search.found);
     }
     for first in 0..count {
-        if search.is_full() {
-            return Ok(search.found);
-        }
-        let last = last_after(alloc, reads.as_slice(), search.beside[first], count)?;
-        if !last.is_empty() {
-            search.add_paths(first, last.as_slice(), length)?;
-        }
+        search.add_from(reads.as_slice(), first, length)?;
     }
     Ok(search.found)
 }

@@ -1,10 +1,10 @@
 //! Carrying out short runs.
-ghost use Rattle.std.specs.Prelude.{◌≡◌, ◌&&◌, IfOk, map, not};
+ghost use Rattle.std.specs.Prelude.{◌≡◌, ◌↔◌, ◌&&◌, ◌++◌, All, IfOk, IsTrue, OnOk, not, true};
 ghost use Rattle.std.specs.List.{flat_map, list_all, list_any};
 ghost use Rattle.std.specs.List.Sorted.{IsStrictlySortedBy};
 ghost use Rattle.std.specs.Map.{keys_of};
 ghost use Rattle.std.specs.Ordering.{is_eq};
-ghost use Rattle.sdd_lang.specs.All.{FitsTxn, effect, item_cmp, item_of};
+ghost use Rattle.sdd_lang.specs.All.{FitsTxn, after_changes, effect, item_cmp, item_of};
 ghost use Rattle.sdd_robust_laws.specs.Runs.{change_one_item, succeeds};
 ghost use Rattle.sdd_changed.specs.Matching.{lent_changes};
 ghost use Rattle.sdd_short_runs.specs.ShortRuns.{after_effects, effects_in_turn, lent_txns};
@@ -45,19 +45,19 @@ pub(crate) fn changes_of<'a>(
 {
     let mut changes = Vec::new(alloc);
     'effects: for effect in effects {
-        add_changes(&mut changes, effect)?;
+        add_changes(&mut changes, effect.changes.as_slice())?;
     }
     Ok(changes)
 }
 
-/// Adds the changes of an effect.
+/// Adds changes, lent.
 pub(crate) fn add_changes<'a>(
     changes: &mut Vec<&'a Change>,
-    effect: &'a Effect,
+    more: &'a [Change],
 ) -> Result<(), NoMemory>
-    ensures { OnOk result (lent_changes changes.new.items ≡ lent_changes changes.old.items ++ effect.now.changes) }
+    ensures { OnOk result (lent_changes changes.new.items ≡ lent_changes changes.old.items ++ more.now) }
 {
-    'changes: for change in effect.changes.as_slice() {
+    'more: for change in more {
         changes.push(change)?;
     }
     Ok(())

@@ -60,7 +60,7 @@ fn with_effect<'a>(
 {
     let mut changes = Vec::new(alloc);
     changes.extend_from_slice(made)?;
-    add_changes(&mut changes, effect)?;
+    add_changes(&mut changes, effect.changes.as_slice())?;
     Ok(changes)
 }
 
