@@ -10,7 +10,7 @@ pub use Rattle.sdd_lang.specs.declared.condition.Condition.{Condition}
 pub use Rattle.sdd_lang.specs.declared.source.Entry.{Entry}
 pub use Rattle.sdd_plain.specs.Lent.{as_of}
 pub use Rattle.sdd_plain.specs.Parts.{standing}
-pub use Rattle.std.proofs.Common.{Bool, Equal, Greater, Less, List, None, Option, Ordering, Some, [], ap, arith, cond, drop, eqb-true, false, filter, fold, is_eq, length, map, refl, subst, sym, take, true, zero, suc, ℕ, ℤ, ◌&&◌, ◌++◌, ◌+◌, ◌<◌, ◌==◌, ◌∙◌, ◌∷◌, ◌≡◌, ◌≤◌}
+pub use Rattle.std.proofs.Common.{Bool, append-nil, Equal, Greater, Less, List, None, Option, Ordering, Some, [], ap, arith, cond, drop, eq-eqb, eqb-true, false, filter, fold, is_eq, length, map, refl, subst, sym, take, true, zero, suc, ℕ, ℤ, ◌&&◌, ◌++◌, ◌+◌, ◌<◌, ◌==◌, ◌∙◌, ◌∷◌, ◌≡◌, ◌≤◌}
 pub use Rattle.std.proofs.lemmas.Map.Keys.{sorted_head, sorted_tail}
 pub use Rattle.std.proofs.lemmas.Map.Lookups.{CmpEqualImpliesEq}
 pub use Rattle.std.proofs.lemmas.Map.Views.{tells_apart}
@@ -20,3 +20,8 @@ pub use Rattle.std.specs.List.{AllByRecursion, list_all}
 pub use Rattle.std.specs.List.Sorted.{IsStrictlySortedBy}
 pub use Rattle.std.specs.Map.{keys_of, remove_entry}
 pub use Rattle.std.specs.Ordering.{match_ordering, ordering_reverse}
+pub use Rattle.sdd_lang.specs.Source.{found_in, within}
+pub use Rattle.std.proofs.Common.{append_assoc, rules, to_z-of_z, w64, SFits as FitsSigned}
+pub use Rattle.std.proofs.lemmas.List.{nil_from_length}
+pub use Rattle.std.proofs.lemmas.Result.{IfOk-weaker}
+pub use Rattle.std.specs.Prelude.{IfOk}

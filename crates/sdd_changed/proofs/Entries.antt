@@ -1,5 +1,5 @@
 -- Entries whose keys ascend, one of which is put or taken away, and those that pass a test.
-use Rattle.sdd_changed.proofs.All.{AllByRecursion, Bool, CmpEqualImpliesEq, Equal, Greater, IsStrictlySortedBy, IsTotalOrder, Less, List, Ordering, [], ap, arith, cond, each_weaker, false, filter, fold, insert_entry, is_at, keys_of, match_ordering, ordering_reverse, refl, remove_entry, sorted_head, sorted_tail, subst, sym, true, ◌++◌, ◌∙◌, ◌∷◌, ◌≡◌}
+use Rattle.sdd_changed.proofs.All.{append-nil, append_assoc, AllByRecursion, Bool, CmpEqualImpliesEq, Equal, Greater, IsStrictlySortedBy, IsTotalOrder, Less, List, Ordering, [], ap, arith, cond, each_weaker, false, filter, fold, insert_entry, is_at, keys_of, match_ordering, ordering_reverse, refl, remove_entry, sorted_head, sorted_tail, subst, sym, true, ◌++◌, ◌∙◌, ◌∷◌, ◌≡◌}
 
 module _ {K X : Type 0} (R : K → K → Ordering) where
   -- what each key has, each key of those that pass has
@@ -36,8 +36,8 @@ module _ {K X : Type 0} (R : K → K → Ordering) where
         let tail = sorted_tail R e.0 (keys_of es) sorted in
         let rest = filter_insert p es k v tail in
         elim (R k e.0) as (λ r. R k e.0 ≡ r
-            → filter p (match_ordering r ((k, v) ∷ e ∷ es) ((e.0, v) ∷ es) (e ∷ insert_entry R es k v))
-            ≡ cond (p (k, v)) (insert_entry R (filter p (e ∷ es)) k v) (remove_entry (is_at (R k)) (filter p (e ∷ es)))) [
+        → filter p (match_ordering r ((k, v) ∷ e ∷ es) ((e.0, v) ∷ es) (e ∷ insert_entry R es k v))
+        ≡ cond (p (k, v)) (insert_entry R (filter p (e ∷ es)) k v) (remove_entry (is_at (R k)) (filter p (e ∷ es)))) [
           | Less ↦ λ r.
               let all = keys_kept p (λ y. R k y ≡ Less) (e ∷ es) (r, above e es k sorted r) in
               grind (arith, insert_first (filter p (e ∷ es)) k v all, remove_none (filter p (e ∷ es)) k all)
@@ -78,12 +78,13 @@ module _ {K X : Type 0} (R : K → K → Ordering) where
 
   pub enter_all : (kept es : List (K × X)) → IsTotalOrder R → IsStrictlySortedBy R (keys_of es) → AllByRecursion (IsBehind kept) (keys_of es)
       → fold (λ rows e. insert_entry R rows e.0 e.1) kept es ≡ kept ++ es
-  enter_all kept [] total sorted behind = grind arith
+  enter_all kept [] total sorted behind = sym (append-nil kept)
   enter_all kept (e ∷ es) total sorted behind =
       let tail = sorted_tail R e.0 (keys_of es) sorted in
       let put = insert_last kept e.0 e.1 behind.0 in
       let next : AllByRecursion (IsBehind (kept ++ e ∷ [])) (keys_of es) = later es (sorted_head R e.0 (keys_of es) sorted) behind.1 in
-      rw put (grind (arith, enter_all (kept ++ e ∷ []) es total tail next))
+      ap (λ z. fold (λ rows (x : K × X). insert_entry R rows x.0 x.1) z es) put
+      ∙ enter_all (kept ++ e ∷ []) es total tail next ∙ append_assoc kept (e ∷ []) es
     where
       later : (rest : List (K × X)) → AllByRecursion (λ y. R e.0 y ≡ Less) (keys_of rest) → AllByRecursion (IsBehind kept) (keys_of rest)
           → AllByRecursion (IsBehind (kept ++ e ∷ [])) (keys_of rest)

@@ -1,8 +1,8 @@
 //! The rows that meet conditions, of a database with changes that are kept apart from it.
-ghost use Rattle.std.specs.Prelude.{◌≡◌, ◌==◌, [], IfOk, OnOk, filter, fold, map};
+ghost use Rattle.std.specs.Prelude.{◌≡◌, ◌==◌, [], IfOk, OnOk, Some, filter, fold, map};
 ghost use Rattle.std.specs.List.Sorted.{IsStrictlySortedBy};
 ghost use Rattle.std.specs.Map.{keys_of};
-ghost use Rattle.sdd_lang.specs.All.{Database, after_changes, chosen, entries_of, fragment_at, item_cmp, item_of};
+ghost use Rattle.sdd_lang.specs.All.{Database, after_changes, chosen, entries_of, fragment_at, item_cmp, item_of, with_row, without_row};
 ghost use Rattle.sdd_plain.specs.Lent.{as_of};
 ghost use Rattle.sdd_changed.specs.Matching.{entered, lent_changes, with_matching};
 
@@ -47,6 +47,37 @@ fn changes_of<'a>(
     Ok(own)
 }
 
+/// Puts the row at its item.
+fn put(rows: &mut Rows, item: (u32, i64), row: Row) -> Result<(), NoMemory>
+    ensures { OnOk result (rows.new.entries ≡ with_row rows.old.entries item row) }
+{
+    rows.insert(item, row)?;
+    Ok(())
+}
+
+/// Takes the row of the item away, where it has one.
+fn remove(rows: &mut Rows, item: (u32, i64))
+    ensures { rows.new.entries ≡ without_row rows.old.entries item }
+{
+    rows.remove(&item);
+}
+
+/// Puts the row at its item where it meets the conditions; where it doesn't, the item has none.
+fn put_matching(
+    rows: &mut Rows,
+    conds: &[Condition],
+    item: (u32, i64),
+    row: &Row,
+) -> Result<(), NoMemory>
+    ensures { OnOk result (rows.new.entries ≡ with_matching conds.now rows.old.entries item (Some row.now)) }
+{
+    if meets_all(conds, &[row]) {
+        return put(rows, item, row.copy()?);
+    }
+    remove(rows, item);
+    Ok(())
+}
+
 /// Makes a change of a row of the relation: the new row stands where it meets the conditions.
 fn make_change(
     rows: &mut Rows,
@@ -56,19 +87,14 @@ fn make_change(
 ) -> Result<(), NoMemory>
     ensures { OnOk result (rows.new.entries ≡ with_matching conds.now rows.old.entries (rel.0, change.now.key) change.now.row) }
 {
+    let item = (rel.0, change.key);
     match &change.row {
-        Some(row) => {
-            if meets_all(conds, &[row]) {
-                rows.insert((rel.0, change.key), row.copy()?)?;
-            } else {
-                rows.remove(&(rel.0, change.key));
-            }
-        }
+        Some(row) => put_matching(rows, conds, item, row),
         None => {
-            rows.remove(&(rel.0, change.key));
+            remove(rows, item);
+            Ok(())
         }
     }
-    Ok(())
 }
 
 /// The entries by their items.
@@ -78,7 +104,7 @@ fn by_item(alloc: Global, rel: RelNo, entries: Entries) -> Result<Rows, NoMemory
     let mut rows = BTreeMap::new(alloc);
     'entries: for entry in entries.into_vec() {
         let Entry { key, row } = entry;
-        rows.insert((rel.0, key), row)?;
+        put(&mut rows, (rel.0, key), row)?;
     }
     Ok(rows)
 }

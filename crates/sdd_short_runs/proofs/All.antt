@@ -1,7 +1,7 @@
 -- The names of std, of the crates below and of this crate's definitions that its proofs cite. Declares nothing.
 pub use Rattle.sdd_changed.specs.Matching.{lent_changes}
 pub use Rattle.sdd_lang.proofs.base.Membership.{Contains-cases, Contains-here, Contains-later, Contains-nil}
-pub use Rattle.sdd_lang.specs.All.{Catalogue, Change, Database, FitsTxn, IsDatabase, Reply, after_changes, contains, effect, item_cmp, item_of, serial}
+pub use Rattle.sdd_lang.specs.All.{Catalogue, Change, Database, FitsTxn, IsDatabase, Reply, after_changes, changed_by, contains, effect, item_cmp, item_of, serial}
 pub use Rattle.sdd_lang.specs.declared.effect.Effect.{Effect}
 pub use Rattle.sdd_lang.specs.declared.transaction.Txn.{Txn}
 pub use Rattle.sdd_order.proofs.Members.{Contains-filter, Contains-from_filter}
@@ -17,3 +17,6 @@ pub use Rattle.std.proofs.Common.{All, Bool, Contains, List, None, Option, Some,
 pub use Rattle.std.proofs.lemmas.Bool.{and_from, and_parts, not-true}
 pub use Rattle.std.proofs.lemmas.List.Sums.{fold-append}
 pub use Rattle.std.specs.List.{list_all, list_any, range_with_len}
+pub use Rattle.std.proofs.lemmas.List.{take_all}
+pub use Rattle.std.proofs.lemmas.List.Elements.{Contains-get_or}
+pub use Rattle.std.proofs.lemmas.Result.{IfOk-weaker}

@@ -1,5 +1,6 @@
 -- A short run that all commit in, and that no order explains, is a counterexample.
-use Rattle.sdd_short_runs.proofs.All.{Bool, Catalogue, Contains, Contains-cases, Contains-here, Contains-later, Contains-nil, Database, Effect, Explains, HasOrder, IsCounterexample, IsOf, IsOrderOf, IsReplay, IsShortCounterexample, List, Log, Txn, [], after_changes, after_effects, and_parts, ap, arith, begins, change_one_item, cond, database, effect, effect_of, effects_in_turn, ended, ends, false, fold-append, in_turn, inl, inr, length, list_all, map, not, not-true, range_with_len, refl, short_log, slice_index_or, subst, succeeds, suc, sym, true, txn_of, zero, ℕ, ◌&&◌, ◌++◌, ◌+◌, ◌<◌, ◌∙◌, ◌∷◌, ◌≡◌, ◌≤◌, ◌⊎◌}
+use Rattle.sdd_short_runs.proofs.All.{flat_map, Change, Bool, Catalogue, Contains, Contains-cases, Contains-here, Contains-later, Contains-nil, Database, Effect, Explains, HasOrder, IsCounterexample, IsOf, IsOrderOf, IsReplay, IsShortCounterexample, List, Log, Txn, [], after_changes, after_effects, and_parts, ap, arith, begins, change_one_item, cond, database, effect, effect_of, effects_in_turn, ended, ends, false, fold-append, in_turn, inl, inr, length, list_all, map, not, not-true, range_with_len, refl, short_log, slice_index_or, subst, succeeds, suc, sym, true, txn_of, zero, ℕ, ◌&&◌, ◌++◌, ◌+◌, ◌<◌, ◌∙◌, ◌∷◌, ◌≡◌, ◌≤◌, ◌⊎◌}
+use Rattle.sdd_short_runs.proofs.Searching.{made_all}
 use Rattle.sdd_short_runs.proofs.ShortLogs.{AreNext, AreNumbered, IsBegun, IsNext, all_more, are_ended, begins_alone, database_after, ended_are, is_run}
 
 -- numbers of a list
@@ -147,3 +148,61 @@ module _ (cat : Catalogue) (first : Database) (outer : Txn) (inner : List Txn) w
           run = is_run cat txns first effects k log begun (ap (λ (e : Effect). succeeds e.reply) outer_effect ∙ parts.0);
           no_order = λ order r. none (from_replay order r);
         }
+
+-- as the code holds them: the outer one behind the inner ones
+
+long_range : (xs : List Effect) (x : Effect) → length (xs ++ x ∷ []) ≡ suc (length xs)
+long_range [] x = refl
+long_range (y ∷ xs) x = ap suc (long_range xs x)
+
+pub refuted : (cat : Catalogue) (outer : Txn) (inner txns : List Txn) (effects : List Effect) (base : Database) (changes : List Change) (left : List ℕ)
+    (e : Effect) (b : Bool) → txns ≡ inner ++ outer ∷ [] → changes ≡ flat_map (λ (f : Effect). f.changes) effects → left ≡ range_with_len 0 (length effects)
+    → (HasOrder cat (λ n. slice_index_or txns n outer) (λ n. slice_index_or effects n e) (after_changes cat base changes) base left → b ≡ true)
+    → not b ≡ true
+    → HasOrder cat (txn_of outer inner) (λ n. slice_index_or effects n e) (after_effects cat base effects) base (range_with_len 0 (length effects)) → ⊥
+refuted cat outer inner txns effects base changes left e b are made of has none order =
+    differ b none (has whole)
+  where
+    texts : (λ n. slice_index_or txns n outer) ≡ txn_of outer inner
+    texts = λ i n. (ap (λ z. slice_index_or z n outer) are ∙ behind inner outer n) i
+
+    last : after_changes cat base changes ≡ after_effects cat base effects
+    last = ap (after_changes cat base) made ∙ made_all cat base effects
+
+    whole : HasOrder cat (λ n. slice_index_or txns n outer) (λ n. slice_index_or effects n e) (after_changes cat base changes) base left
+    whole =
+        subst (λ z. HasOrder cat z (λ n. slice_index_or effects n e) (after_changes cat base changes) base left) (sym texts)
+        (subst (λ z. HasOrder cat (txn_of outer inner) (λ n. slice_index_or effects n e) z base left) (sym last)
+        (subst (HasOrder cat (txn_of outer inner) (λ n. slice_index_or effects n e) (after_effects cat base effects) base) (sym of) order))
+
+    differ : (c : Bool) → not c ≡ true → c ≡ true → ⊥
+    differ true p q = cc
+    differ false p q = cc
+
+pub none_explains : (cat : Catalogue) (first : Database) (outer : Txn) (inner : List Txn) (effects : List Effect)
+    → effects ≡ effects_in_turn cat first inner ++ effect cat first outer ∷ []
+    → (succeeds (effect cat first outer).reply && list_all (λ e. succeeds e.reply && not (change_one_item cat e (effect cat first outer))) (effects_in_turn cat first inner)) ≡ true
+    → (work : List Txn) → IsOf work outer inner
+    → ((e : Effect) → HasOrder cat (txn_of outer inner) (λ n. slice_index_or effects n e) (after_effects cat first effects) first (range_with_len 0 (length effects)) → ⊥)
+    → IsShortCounterexample cat work first outer inner
+none_explains cat first outer inner effects are ok work of none =
+    is_counterexample cat first outer inner ok work of
+    (λ has. none own (subst (λ z. HasOrder cat (txn_of outer inner) (λ n. slice_index_or z n own) (after_effects cat first z) first (range_with_len 0 (length z))) (sym are) (held has)))
+  where
+    own : Effect
+    own = effect cat first outer
+
+    made : List Effect
+    made = effects_in_turn cat first inner
+
+    replies : effect_of cat first outer inner ≡ (λ n. slice_index_or (made ++ own ∷ []) n own)
+    replies = λ i n. (sym (behind made own n)) i
+
+    long : suc (length inner) ≡ length (made ++ own ∷ [])
+    long = ap suc (sym (long_effects cat first inner)) ∙ sym (long_range made own)
+
+    held : HasOrder cat (txn_of outer inner) (effect_of cat first outer inner) (after_effects cat first (made ++ own ∷ [])) first (range_with_len 0 (suc (length inner)))
+        → HasOrder cat (txn_of outer inner) (λ n. slice_index_or (made ++ own ∷ []) n own) (after_effects cat first (made ++ own ∷ [])) first (range_with_len 0 (length (made ++ own ∷ [])))
+    held has =
+        subst (λ z. HasOrder cat (txn_of outer inner) z (after_effects cat first (made ++ own ∷ [])) first (range_with_len 0 (length (made ++ own ∷ [])))) replies
+        (subst (λ z. HasOrder cat (txn_of outer inner) (effect_of cat first outer inner) (after_effects cat first (made ++ own ∷ [])) first (range_with_len 0 z)) long has)

@@ -1,4 +1,5 @@
 mod All
 pub mod ShortLogs
 pub mod Orders
+pub mod Searching
 pub mod Counterexamples

@@ -43,11 +43,15 @@ module _ (cat : Catalogue) (txns : ℕ → Txn) (effects : ℕ → Effect) (last
     pub reply : (effect cat db (txns n)).reply ≡ (effects n).reply
     pub rest : HasOrder cat txns effects last (after_changes cat db (effect cat db (txns n)).changes) (without numbers n)
 
-  pub first_of : (m : ℕ) (numbers : List ℕ) → HasOrder cat txns effects last db (m ∷ numbers) → (n : ℕ) × BeginsWith (m ∷ numbers) n
-  first_of m numbers has = by has.order has.of has.explains
+  pub first_of : (numbers : List ℕ) → (numbers ≡ [] → ⊥) → HasOrder cat txns effects last db numbers → (n : ℕ) × BeginsWith numbers n
+  first_of numbers some has = by has.order has.of has.explains
     where
-      by : (order : List ℕ) → IsOrderOf (m ∷ numbers) order → Explains cat txns effects last db order → (n : ℕ) × BeginsWith (m ∷ numbers) n
-      by [] of explains = absurd (Contains-nil m ((of.same m).0 (Contains-here m numbers)))
+      none_there : (xs : List ℕ) → ((n : ℕ) → Contains xs n → Contains [] n) → xs ≡ []
+      none_there [] within = refl
+      none_there (x ∷ xs) within = absurd (Contains-nil x (within x (Contains-here x xs)))
+
+      by : (order : List ℕ) → IsOrderOf numbers order → Explains cat txns effects last db order → (n : ℕ) × BeginsWith numbers n
+      by [] of explains = absurd (some (none_there numbers (λ n. (of.same n).0)))
       by (n ∷ rest) of explains = (
         n,
         record {
@@ -55,7 +59,7 @@ module _ (cat : Catalogue) (txns : ℕ → Txn) (effects : ℕ → Effect) (last
           reply = head_is _ _ _ _ explains.replies;
           rest = record {
             order = rest;
-            of = rest_of (m ∷ numbers) n rest of;
+            of = rest_of numbers n rest of;
             explains = record { replies = tail_is _ _ _ _ explains.replies; rows = explains.rows };
           };
         },
