@@ -5,7 +5,6 @@ ghost use Rattle.std.specs.Map.{keys_of};
 ghost use Rattle.sdd_lang.specs.All.{after_changes, chosen_in, item_cmp, may_join, rows_lent, rows_of};
 ghost use Rattle.sdd_lang.specs.Source.{found_in};
 ghost use Rattle.sdd_plain.specs.Parts.{standing};
-ghost use Rattle.sdd_changed.specs.Matching.{lent_changes};
 
 use crate::matching::find_matching;
 use crate::own_conditions::own_conditions;
@@ -24,18 +23,17 @@ use std::marker::Model;
 pub struct Changed<'a> {
     catalogue: &'a Catalogue,
     base: &'a Plain,
-    changes: &'a [&'a Change],
+    changes: &'a [Change],
 }
 
 impl<'a> Model for Changed<'a> {
     ghost use Rattle.std.specs.List.Sorted.{IsStrictlySortedBy};
     ghost use Rattle.std.specs.Map.{keys_of};
     ghost use Rattle.sdd_lang.specs.All.{Database, after_changes, item_cmp};
-    ghost use Rattle.sdd_changed.specs.Matching.{lent_changes};
 
     ghost Value = { Database };
 
-    ghost view = { λ c. after_changes c.catalogue.now c.base.now.value (lent_changes c.changes.now) };
+    ghost view = { λ c. after_changes c.catalogue.now c.base.now.value c.changes.now };
 
     ghost invariant = { λ c. IsStrictlySortedBy item_cmp (keys_of c.base.now.value) };
 }
@@ -76,9 +74,9 @@ fn lend_all<'a>(alloc: Global, lists: &'a [RowList]) -> Result<Parts<'a>, NoMemo
 
 impl<'a> Changed<'a> {
     /// The database with these changes.
-    pub fn new(catalogue: &'a Catalogue, base: &'a Plain, changes: &'a [&'a Change]) -> Self
+    pub fn new(catalogue: &'a Catalogue, base: &'a Plain, changes: &'a [Change]) -> Self
         requires { IsStrictlySortedBy item_cmp (keys_of base.now.value) }
-        ensures { result ≡ after_changes catalogue.now base.now.value (lent_changes changes.now) }
+        ensures { result ≡ after_changes catalogue.now base.now.value changes.now }
     {
         Changed {
             catalogue,

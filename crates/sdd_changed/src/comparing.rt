@@ -60,7 +60,7 @@ pub fn are_same_where(
     catalogue: &Catalogue,
     a: &Changed,
     b: &Changed,
-    changes: &[&Change],
+    changes: &[Change],
 ) -> Result<bool, NoMemory>
     ensures { IfOk result (λ same. a.now ≡ b.now → same ≡ true) }
 {

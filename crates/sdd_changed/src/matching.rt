@@ -32,16 +32,16 @@ pub fn relation_of(catalogue: &Catalogue, frag: FragNo) -> u32
 fn changes_of<'a>(
     alloc: Global,
     catalogue: &Catalogue,
-    changes: &[&'a Change],
+    changes: &'a [Change],
     rel: RelNo,
 ) -> Result<Vec<&'a Change>, NoMemory>
     ensures { IfOk result (λ own. lent_changes own.items
-        ≡ filter (λ c. (item_of catalogue.now c).0 == rel.0) (lent_changes changes.now)) }
+        ≡ filter (λ c. (item_of catalogue.now c).0 == rel.0) changes.now) }
 {
     let mut own = Vec::new(alloc);
     'changes: for change in changes {
         if relation_of(catalogue, change.frag) == rel.0 {
-            own.push(*change)?;
+            own.push(change)?;
         }
     }
     Ok(own)
@@ -145,13 +145,13 @@ pub(crate) fn find_matching(
     alloc: Global,
     catalogue: &Catalogue,
     base: &Plain,
-    changes: &[&Change],
+    changes: &[Change],
     rel: RelNo,
     conds: &[Condition],
 ) -> Result<Entries, NoMemory>
     requires { IsStrictlySortedBy item_cmp (keys_of base.now.value) }
     ensures { IfOk result (λ entries. entries_of rel.0 entries
-        ≡ chosen (after_changes catalogue.now base.now.value (lent_changes changes.now)) rel.0 conds.now) }
+        ≡ chosen (after_changes catalogue.now base.now.value changes.now) rel.0 conds.now) }
 {
     let entries = base.find_matching(alloc, 0, rel, conds)?;
     let own = changes_of(alloc, catalogue, changes, rel)?;

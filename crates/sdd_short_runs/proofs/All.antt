@@ -1,5 +1,4 @@
 -- The names of std, of the crates below and of this crate's definitions that its proofs cite. Declares nothing.
-pub use Rattle.sdd_changed.specs.Matching.{lent_changes}
 pub use Rattle.sdd_lang.proofs.base.Membership.{Contains-cases, Contains-here, Contains-later, Contains-nil}
 pub use Rattle.sdd_lang.specs.All.{Catalogue, Change, Database, FitsTxn, IsDatabase, Reply, after_changes, changed_by, contains, effect, item_cmp, item_of, serial}
 pub use Rattle.sdd_lang.specs.declared.effect.Effect.{Effect}

@@ -1,5 +1,5 @@
 mod All
 pub mod ShortLogs
-pub mod Orders
+pub mod Beginnings
 pub mod Searching
 pub mod Counterexamples

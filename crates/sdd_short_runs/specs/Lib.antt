@@ -2,3 +2,4 @@ pub mod ShortRuns
 pub mod Orders
 pub mod Found
 pub mod Tried
+pub mod Examples

@@ -1,6 +1,5 @@
 -- A run whose orders are tried, as it is held: its transactions and effects by their numbers, and all its changes.
 use Rattle.std.specs.Prelude.{ℕ, ◌≡◌, ◌<◌, true, List, length, slice_index_or, filter, not, ◌==◌}
-use Rattle.std.specs.Borrow.{Bor}
 use Rattle.std.specs.List.{All}
 use Rattle.std.specs.List.Sorted.{IsStrictlySortedBy}
 use Rattle.std.specs.Map.{keys_of}
@@ -8,7 +7,6 @@ use Rattle.sdd_lang.specs.All.{Change, Database, FitsTxn, after_changes, item_cm
 use Rattle.sdd_lang.specs.declared.effect.Effect.{Effect}
 use Rattle.sdd_lang.specs.declared.transaction.Txn.{Txn}
 use Rattle.sdd_robust_laws.specs.Runs.{succeeds}
-use Rattle.sdd_changed.specs.Matching.{lent_changes}
 use Rattle.sdd_short_runs.specs.ShortRuns.{lent_txns}
 use Rattle.sdd_short_runs.specs.declared.orders.Run.{Run}
 
@@ -20,8 +18,8 @@ abbrev pub effect_at : Run → Effect → ℕ → Effect
 effect_at run d n = slice_index_or run.effects.now n d
 
 -- the database after changes of the first one
-abbrev pub database_with : Run → List (Bor Change) → Database
-database_with run changes = after_changes run.catalogue.now run.base.now.value (lent_changes changes)
+abbrev pub database_with : Run → List Change → Database
+database_with run changes = after_changes run.catalogue.now run.base.now.value changes
 
 -- the database at the end of the run
 abbrev pub last_database : Run → Database

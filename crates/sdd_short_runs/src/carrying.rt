@@ -6,12 +6,11 @@ ghost use Rattle.std.specs.Map.{keys_of};
 ghost use Rattle.std.specs.Ordering.{is_eq};
 ghost use Rattle.sdd_lang.specs.All.{FitsTxn, after_changes, effect, item_cmp, item_of};
 ghost use Rattle.sdd_robust_laws.specs.Runs.{change_one_item, succeeds};
-ghost use Rattle.sdd_changed.specs.Matching.{lent_changes};
 ghost use Rattle.sdd_short_runs.specs.ShortRuns.{after_effects, effects_in_turn, lent_txns};
 
 use sdd_base::is_same;
 use sdd_changed::{Changed, relation_of};
-use sdd_lang::{Catalogue, Change, Effect, NoMemory, Reply, Txn, effect_over};
+use sdd_lang::{Catalogue, Change, Effect, NoMemory, Parcel, Reply, Txn, effect_over};
 use sdd_plain::Plain;
 use std::alloc::Global;
 
@@ -21,12 +20,12 @@ pub(crate) fn effect_after(
     alloc: Global,
     catalogue: &Catalogue,
     base: &Plain,
-    changes: &[&Change],
+    changes: &[Change],
     txn: &Txn,
 ) -> Result<Effect, NoMemory>
     requires sorted { IsStrictlySortedBy item_cmp (keys_of base.now.value) }
     requires fits { FitsTxn catalogue.now txn.now }
-    ensures { IfOk result (λ found. found ≡ effect catalogue.now (after_changes catalogue.now base.now.value (lent_changes changes.now)) txn.now) }
+    ensures { IfOk result (λ found. found ≡ effect catalogue.now (after_changes catalogue.now base.now.value changes.now) txn.now) }
 {
     effect_over(
         alloc,
@@ -37,11 +36,8 @@ pub(crate) fn effect_after(
 }
 
 /// The changes of effects, one after the other.
-pub(crate) fn changes_of<'a>(
-    alloc: Global,
-    effects: &'a [Effect],
-) -> Result<Vec<&'a Change>, NoMemory>
-    ensures { IfOk result (λ changes. lent_changes changes.items ≡ flat_map (λ e. e.changes) effects.now) }
+pub(crate) fn changes_of(alloc: Global, effects: &[Effect]) -> Result<Vec<Change>, NoMemory>
+    ensures { IfOk result (λ changes. changes.items ≡ flat_map (λ e. e.changes) effects.now) }
 {
     let mut changes = Vec::new(alloc);
     'effects: for effect in effects {
@@ -50,15 +46,12 @@ pub(crate) fn changes_of<'a>(
     Ok(changes)
 }
 
-/// Adds changes, lent.
-pub(crate) fn add_changes<'a>(
-    changes: &mut Vec<&'a Change>,
-    more: &'a [Change],
-) -> Result<(), NoMemory>
-    ensures { OnOk result (lent_changes changes.new.items ≡ lent_changes changes.old.items ++ more.now) }
+/// Adds copies of changes.
+pub(crate) fn add_changes(changes: &mut Vec<Change>, more: &[Change]) -> Result<(), NoMemory>
+    ensures { OnOk result (changes.new.items ≡ changes.old.items ++ more.now) }
 {
     'more: for change in more {
-        changes.push(change)?;
+        changes.push(change.copy()?)?;
     }
     Ok(())
 }

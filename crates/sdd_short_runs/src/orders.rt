@@ -3,7 +3,6 @@ ghost use Rattle.std.specs.Prelude.{◌≡◌, ◌<◌, ◌++◌, ℕ, Contains,
 ghost use Rattle.sdd_lang.specs.All.{effect};
 ghost use Rattle.sdd_lang.specs.declared.effect.Effect.{Effect};
 ghost use Rattle.sdd_lang.specs.declared.transaction.Txn.{Txn};
-ghost use Rattle.sdd_changed.specs.Matching.{lent_changes};
 ghost use Rattle.sdd_short_runs.specs.Orders.{HasOrder};
 ghost use Rattle.sdd_short_runs.specs.Tried.{IsTried, database_with, effect_at, last_database, txn_at, without};
 
@@ -21,11 +20,11 @@ pub(crate) struct Run<'a> {
     pub base: &'a Plain,
     pub txns: &'a [&'a Txn],
     pub effects: &'a [Effect],
-    pub changes: &'a [&'a Change],
+    pub changes: &'a [Change],
 }
 
 /// Whether the changes make of the first database what the run made of it.
-fn is_last(alloc: Global, run: &Run, made: &[&Change]) -> Result<bool, NoMemory>
+fn is_last(alloc: Global, run: &Run, made: &[Change]) -> Result<bool, NoMemory>
     requires { IsTried run.now }
     ensures { IfOk result (λ same. last_database run.now ≡ database_with run.now made.now → same ≡ true) }
 {
@@ -51,16 +50,14 @@ fn without(alloc: Global, numbers: &[usize], number: usize) -> Result<Vec<usize>
 }
 
 /// The changes, and behind them those of an effect.
-fn with_effect<'a>(
-    alloc: Global,
-    made: &[&'a Change],
-    effect: &'a Effect,
-) -> Result<Vec<&'a Change>, NoMemory>
-    ensures { IfOk result (λ changes. lent_changes changes.items ≡ lent_changes made.now ++ effect.now.changes) }
+fn with_effect(alloc: Global, made: &[Change], effect: Effect) -> Result<Vec<Change>, NoMemory>
+    ensures { IfOk result (λ changes. changes.items ≡ made.now ++ effect.changes) }
 {
     let mut changes = Vec::new(alloc);
-    changes.extend_from_slice(made)?;
-    add_changes(&mut changes, effect.changes.as_slice())?;
+    add_changes(&mut changes, made)?;
+    'changes: for change in effect.changes.into_vec() {
+        changes.push(change)?;
+    }
     Ok(changes)
 }
 
@@ -84,11 +81,11 @@ fn has_reply(run: &Run, number: usize, effect: &Effect) -> bool
 
 /// Whether some order of those that are left, after these changes, gives their replies and ends in the
 /// database of the run. Costs an effect for each beginning of an order that gives their replies.
-pub(crate) fn has_order(
+pub(crate) fn has_order<'a>(
     alloc: Global,
-    run: &Run,
+    run: &Run<'a>,
     left: &[usize],
-    made: &[&Change],
+    made: &[Change],
 ) -> Result<bool, NoMemory>
     requires tried { IsTried run.now }
     requires there { (n : ℕ) → Contains left.now n → n < length run.now.txns.now }
@@ -103,7 +100,7 @@ pub(crate) fn has_order(
         let effect = effect_of(alloc, run, made, *number)?;
         if has_reply(run, *number, &effect) {
             let rest = without(alloc, left, *number)?;
-            let changes = with_effect(alloc, made, &effect)?;
+            let changes = with_effect(alloc, made, effect)?;
             if has_order(alloc, run, rest.as_slice(), changes.as_slice())? {
                 return Ok(true);
             }

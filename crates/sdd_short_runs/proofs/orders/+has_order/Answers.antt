@@ -1,5 +1,5 @@
 use Rattle.sdd_short_runs.proofs.All.{Contains, Contains-from_filter, Contains-get_or, Effect, HasOrder, IfOk-weaker, Txn, ap, arith, database_with, effect_at, last_database, length, not, slice_index_or, subst, sym, take, take_all, true, txn_at, without, ℕ, ◌==◌, ◌∙◌, ◌≡◌}
-use Rattle.sdd_short_runs.proofs.Orders.{BeginsWith, first_of, none_left}
+use Rattle.sdd_short_runs.proofs.Beginnings.{BeginsWith, first_of, none_left}
 use Rattle.sdd_short_runs.proofs.Searching.{made_more, no_rest, other_reply, without_less}
 use Rattle.sdd_robust.proofs.Steps.{each_all, each_at}
 use Rattle.sdd_short_runs.proofs.orders.+has_order.Goals as goal

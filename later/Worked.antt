@@ -1,7 +1,7 @@
 -- Worked: write skew is a counterexample, and so is a reader beside two others.
 use Rattle.sdd_short_runs.proofs.All.{Bool, Catalogue, Contains, Contains-cases, Contains-here, Contains-later, Contains-nil, Database, Effect, HasOrder, Int, IsOf, IsShortCounterexample, List, Reply, Rows, Txn, [], after_changes, ap, arith, effect, effect_of, false, inl, inr, length, list_any, pos, refl, subst, suc, sym, true, txn_of, without, zero, ℕ, ◌&&◌, ◌==◌, ◌<◌, ◌∙◌, ◌∷◌, ◌≡◌, ◌≤◌}
 use Rattle.sdd_short_runs.proofs.Counterexamples.{is_counterexample}
-use Rattle.sdd_short_runs.proofs.Orders.{BeginsWith, first_of}
+use Rattle.sdd_short_runs.proofs.Beginnings.{BeginsWith, first_of}
 use Rattle.sdd_robust_laws.specs.RunExamples.{reader, skew, two_rows}
 use Rattle.sdd_order.specs.Examples.{crossing}
 
