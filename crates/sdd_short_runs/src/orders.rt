@@ -62,7 +62,7 @@ fn with_effect(alloc: Global, made: &[Change], effect: Effect) -> Result<Vec<Cha
 }
 
 /// The effect of a run's transaction after changes.
-fn effect_of(alloc: Global, run: &Run, made: &[&Change], number: usize) -> Result<Effect, NoMemory>
+fn effect_of(alloc: Global, run: &Run, made: &[Change], number: usize) -> Result<Effect, NoMemory>
     requires tried { IsTried run.now }
     requires there { number < length run.now.txns.now }
     ensures { IfOk result (λ found. (d : Txn) → found ≡ effect run.now.catalogue.now (database_with run.now made.now) (txn_at run.now d number)) }
