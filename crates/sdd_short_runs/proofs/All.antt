@@ -6,9 +6,9 @@ pub use Rattle.sdd_lang.specs.declared.transaction.Txn.{Txn}
 pub use Rattle.sdd_order.proofs.Members.{Contains-filter, Contains-from_filter}
 pub use Rattle.sdd_robust_laws.specs.Runs.{FirstWins, InTurn, IsCounterexample, IsSnapshotRun, change_one_item, ended_since, succeeds}
 pub use Rattle.sdd_short_runs.specs.Found.{IsOf}
-pub use Rattle.sdd_short_runs.specs.Orders.{Explains, HasOrder, IsOrderOf}
+pub use Rattle.sdd_short_runs.specs.Orders.{BeginsWith, Explains, HasOrder, IsOrderOf, without}
 pub use Rattle.sdd_short_runs.specs.ShortRuns.{IsShortCounterexample, after_effects, effect_of, effects_in_turn, in_turn, lent_txns, short_log, txn_of}
-pub use Rattle.sdd_short_runs.specs.Tried.{IsTried, database_with, effect_at, last_database, txn_at, without}
+pub use Rattle.sdd_short_runs.specs.Tried.{IsTried, database_with, effect_at, last_database, txn_at}
 pub use Rattle.sdd_snapshot_replay.specs.Logs.{Log, SeesSnapshots, begun, database, ended}
 pub use Rattle.sdd_snapshot_replay.specs.Logs.Step.{begins, ends}
 pub use Rattle.sdd_snapshot_replay.specs.Replays.{EachOnce, IsReplay}

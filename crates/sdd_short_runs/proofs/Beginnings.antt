@@ -1,5 +1,5 @@
 -- Orders, by their first number and the rest.
-use Rattle.sdd_short_runs.proofs.All.{without, Catalogue, Contains, Contains-cases, Contains-filter, Contains-from_filter, Contains-here, Contains-later, Contains-nil, Database, EachOnce, Effect, Explains, HasOrder, IsOrderOf, List, Reply, Txn, [], after_changes, ap, arith, effect, eq-eqb, eqb-true, false, filter, inl, inr, map, ne_eqb, not, refl, serial, subst, sym, true, ℕ, ◌==◌, ◌∙◌, ◌∷◌, ◌≡◌, ◌≢◌, ◌⊎◌}
+use Rattle.sdd_short_runs.proofs.All.{BeginsWith, without, Catalogue, Contains, Contains-cases, Contains-filter, Contains-from_filter, Contains-here, Contains-later, Contains-nil, Database, EachOnce, Effect, Explains, HasOrder, IsOrderOf, List, Reply, Txn, [], after_changes, ap, arith, effect, eq-eqb, eqb-true, false, filter, inl, inr, map, ne_eqb, not, refl, serial, subst, sym, true, ℕ, ◌==◌, ◌∙◌, ◌∷◌, ◌≡◌, ◌≢◌, ◌⊎◌}
 
 head_is : {A : Type 0} (x y : A) (xs ys : List A) → x ∷ xs ≡ y ∷ ys → x ≡ y
 head_is x y xs ys e = cc
@@ -37,20 +37,15 @@ module _ (cat : Catalogue) (txns : ℕ → Txn) (effects : ℕ → Effect) (last
       by [] of explains = sym explains.rows
       by (n ∷ rest) of explains = absurd (Contains-nil n ((of.same n).1 (Contains-here n rest)))
 
-  -- a first number, whose reply is its run's, and an order of the rest
-  pub record BeginsWith (numbers : List ℕ) (n : ℕ) : Type 0 where
-    pub there : Contains numbers n
-    pub reply : (effect cat db (txns n)).reply ≡ (effects n).reply
-    pub rest : HasOrder cat txns effects last (after_changes cat db (effect cat db (txns n)).changes) (without numbers n)
-
-  pub first_of : (numbers : List ℕ) → (numbers ≡ [] → ⊥) → HasOrder cat txns effects last db numbers → (n : ℕ) × BeginsWith numbers n
+  -- and else some number is the first
+  pub first_of : (numbers : List ℕ) → (numbers ≡ [] → ⊥) → HasOrder cat txns effects last db numbers → (n : ℕ) × BeginsWith cat txns effects last db numbers n
   first_of numbers some has = by has.order has.of has.explains
     where
       none_there : (xs : List ℕ) → ((n : ℕ) → Contains xs n → Contains [] n) → xs ≡ []
       none_there [] within = refl
       none_there (x ∷ xs) within = absurd (Contains-nil x (within x (Contains-here x xs)))
 
-      by : (order : List ℕ) → IsOrderOf numbers order → Explains cat txns effects last db order → (n : ℕ) × BeginsWith numbers n
+      by : (order : List ℕ) → IsOrderOf numbers order → Explains cat txns effects last db order → (n : ℕ) × BeginsWith cat txns effects last db numbers n
       by [] of explains = absurd (some (none_there numbers (λ n. (of.same n).0)))
       by (n ∷ rest) of explains = (
         n,

@@ -1,6 +1,5 @@
 -- The search for an order, number by number.
-use Rattle.sdd_short_runs.proofs.All.{Bool, Catalogue, Change, Contains, Contains-cases, Contains-nil, Database, Effect, HasOrder, List, Txn, [], after_changes, after_effects, ap, arith, changed_by, cond, effect, eq-eqb, false, filter, flat_map, fold, fold-append, inl, inr, length, ne_eqb, not, refl, subst, sym, true, without, ℕ, ◌++◌, ◌+◌, ◌<◌, ◌==◌, ◌∙◌, ◌∷◌, ◌≡◌, ◌≤◌}
-use Rattle.sdd_short_runs.proofs.Beginnings.{BeginsWith}
+use Rattle.sdd_short_runs.proofs.All.{BeginsWith, Bool, Catalogue, Change, Contains, Contains-cases, Contains-nil, Database, Effect, HasOrder, List, Txn, [], after_changes, after_effects, ap, arith, changed_by, cond, effect, eq-eqb, false, filter, flat_map, fold, fold-append, inl, inr, length, ne_eqb, not, refl, subst, sym, true, without, ℕ, ◌++◌, ◌+◌, ◌<◌, ◌==◌, ◌∙◌, ◌∷◌, ◌≡◌, ◌≤◌}
 
 at_most : (p : ℕ → Bool) (xs : List ℕ) → length (filter p xs) ≤ length xs
 at_most p [] = omega arith

@@ -1,5 +1,5 @@
 -- A run whose orders are tried, as it is held: its transactions and effects by their numbers, and all its changes.
-use Rattle.std.specs.Prelude.{ℕ, ◌≡◌, ◌<◌, true, List, length, slice_index_or, filter, not, ◌==◌}
+use Rattle.std.specs.Prelude.{ℕ, ◌≡◌, true, List, length, slice_index_or}
 use Rattle.std.specs.List.{All}
 use Rattle.std.specs.List.Sorted.{IsStrictlySortedBy}
 use Rattle.std.specs.Map.{keys_of}
@@ -30,7 +30,3 @@ pub record IsTried (run : Run) : Type 0 where
   pub fit : All (FitsTxn run.catalogue.now) (lent_txns run.txns.now)
   pub succeed : All (λ (e : Effect). succeeds e.reply ≡ true) run.effects.now
   pub as_many : length run.txns.now ≡ length run.effects.now
-
--- the numbers but one
-abbrev pub without : List ℕ → ℕ → List ℕ
-without numbers n = filter (λ m. not (m == n)) numbers

@@ -69,7 +69,8 @@ fn next_effect(
     ensures { IfOk result (λ found. found ≡ effect catalogue.now (after_effects catalogue.now base.now.value effects.now) txn.now) }
 {
     let changes = changes_of(alloc, effects)?;
-    effect_after(alloc, catalogue, base, changes.as_slice(), txn)
+    let found = effect_after(alloc, catalogue, base, changes.as_slice(), txn)?;
+    Ok(found)
 }
 
 /// The effects of transactions that run one after the other.

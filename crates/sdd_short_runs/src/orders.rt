@@ -1,10 +1,10 @@
 //! Whether some order of runs, one after the other, gives their replies and the last database.
-ghost use Rattle.std.specs.Prelude.{◌≡◌, ◌<◌, ◌++◌, ℕ, Contains, IfOk, length, true};
+ghost use Rattle.std.specs.Prelude.{◌≡◌, ◌<◌, ◌++◌, ℕ, Contains, IfNone, IfOk, IfSome, length, true};
 ghost use Rattle.sdd_lang.specs.All.{effect};
 ghost use Rattle.sdd_lang.specs.declared.effect.Effect.{Effect};
 ghost use Rattle.sdd_lang.specs.declared.transaction.Txn.{Txn};
-ghost use Rattle.sdd_short_runs.specs.Orders.{HasOrder};
-ghost use Rattle.sdd_short_runs.specs.Tried.{IsTried, database_with, effect_at, last_database, txn_at, without};
+ghost use Rattle.sdd_short_runs.specs.Orders.{BeginsWith, HasOrder, without};
+ghost use Rattle.sdd_short_runs.specs.Tried.{IsTried, database_with, effect_at, last_database, txn_at};
 
 use crate::carrying::{add_changes, effect_after, is_same_reply};
 use sdd_changed::{Changed, are_same_where};
@@ -79,6 +79,39 @@ fn has_reply(run: &Run, number: usize, effect: &Effect) -> bool
     is_same_reply(&run.effects[number].reply, &effect.reply)
 }
 
+/// What is left of an order once it has begun.
+#[derive(Drop)]
+struct Begun {
+    left: Vec<usize>,
+    made: Vec<Change>,
+}
+
+/// The order begins with this number; None where the reply is another one than the run's.
+fn begin_with(
+    alloc: Global,
+    run: &Run,
+    left: &[usize],
+    made: &[Change],
+    number: usize,
+) -> Result<Option<Begun>, NoMemory>
+    requires tried { IsTried run.now }
+    requires there { number < length run.now.txns.now }
+    ensures none { IfOk result (λ found. IfNone found ((t : Txn) (e : Effect)
+        → BeginsWith run.now.catalogue.now (txn_at run.now t) (effect_at run.now e) (last_database run.now) (database_with run.now made.now) left.now number → ⊥)) }
+    ensures left { IfOk result (λ found. IfSome found (λ b. b.left.items ≡ without left.now number)) }
+    ensures order { IfOk result (λ found. IfSome found (λ b. (t : Txn) (e : Effect)
+        → BeginsWith run.now.catalogue.now (txn_at run.now t) (effect_at run.now e) (last_database run.now) (database_with run.now made.now) left.now number
+        → HasOrder run.now.catalogue.now (txn_at run.now t) (effect_at run.now e) (last_database run.now) (database_with run.now b.made.items) b.left.items)) }
+{
+    let effect = effect_of(alloc, run, made, number)?;
+    if !has_reply(run, number, &effect) {
+        return Ok(None);
+    }
+    let left = without(alloc, left, number)?;
+    let made = with_effect(alloc, made, effect)?;
+    Ok(Some(Begun { left, made }))
+}
+
 /// Whether some order of those that are left, after these changes, gives their replies and ends in the
 /// database of the run. Costs an effect for each beginning of an order that gives their replies.
 pub(crate) fn has_order<'a>(
@@ -97,13 +130,14 @@ pub(crate) fn has_order<'a>(
         return is_last(alloc, run, made);
     }
     'left: for number in left {
-        let effect = effect_of(alloc, run, made, *number)?;
-        if has_reply(run, *number, &effect) {
-            let rest = without(alloc, left, *number)?;
-            let changes = with_effect(alloc, made, effect)?;
-            if has_order(alloc, run, rest.as_slice(), changes.as_slice())? {
-                return Ok(true);
+        match begin_with(alloc, run, left, made, *number)? {
+            Some(begun) => {
+                let found = has_order(alloc, run, begun.left.as_slice(), begun.made.as_slice())?;
+                if found {
+                    return Ok(true);
+                }
             }
+            None => {}
         }
     }
     Ok(false)

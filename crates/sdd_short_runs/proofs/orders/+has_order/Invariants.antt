@@ -1,5 +1,4 @@
-use Rattle.sdd_short_runs.proofs.All.{Contains, Effect, Txn, database_with, effect_at, last_database, length, take, txn_at, ℕ}
-use Rattle.sdd_short_runs.proofs.Beginnings.{BeginsWith}
+use Rattle.sdd_short_runs.proofs.All.{BeginsWith, Contains, Effect, Txn, database_with, effect_at, last_database, length, take, txn_at, ℕ}
 use Rattle.sdd_short_runs.proofs.orders.+has_order.Given as goal
 
 -- no order begins with one of those so far
