@@ -1,0 +1,5 @@
+mod All
+pub mod ShortLogs
+pub mod Beginnings
+pub mod Searching
+pub mod Counterexamples
