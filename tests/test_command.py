@@ -15,6 +15,7 @@ from unittest import mock
 
 import sdd_path  # noqa: F401
 from sdd.cli import COMMANDS, main
+from sdd.explain.rules import SNAPSHOTS
 from sdd import programs
 from sdd.programs import ROOT
 from sdd.reference import breaking
@@ -184,8 +185,15 @@ class Refusals(unittest.TestCase):
         done = call("explain", "catalogue: top: NotToml", BRIDGE[1])
         self.assertIn(b"the catalogue comes first", done.stdout)
         self.assertEqual(call("explain", "nonsense").returncode, 2)
-        for line in ("limit", "no memory", "read fault", "write fault"):
+        for line in ("limit", "no memory", "read fault", "write fault", *SNAPSHOTS, "pivot a reads what b changes, and changes what c reads"):
             self.assertTrue(call("explain", line).stdout.startswith(line.encode()))
+
+    def test_what_to_ask_next(self):
+        for words, said in ((("robust", TWO_PROTOCOLS), b"sdd explain"), (("advise", TWO_PROTOCOLS), b"`sdd robust`")):
+            self.assertIn(said, call(*words).stderr)
+            self.assertEqual(call(*words, "-q").stderr, b"")
+        for word in ("robust", "advise"):
+            self.assertNotIn(b"robust`", call(word, BRIDGE[0]).stderr)
 
 
 class OneFile(unittest.TestCase):

@@ -5,14 +5,14 @@
 
 For each seed from FROM up to TO, without it, and each kind (all where none is named) a call is drawn: words and files.
 The reference of this repository (`sdd reference`) answers it in this process, the program by COMMAND, and so may a third one.
-Kind inside is for `sdd1_inside`, and is left out without --inside; kinds questions and certify are for `sdd1_ask`, and are left
-out without --ask.
+Kind inside is for `sdd1_inside`, and is left out without --inside; kinds questions, certify and robust are for `sdd1_ask`, and are
+left out without --ask.
 An answer is a status, what is written to standard error, and what standard output is. Of a call with a difference lines are
 taken away as long as there is one; what is left is printed, and with --into its files are kept in FOLDER. It ends with 1
 where there was a difference.
 
 Kinds: catalogue, faulty-catalogue, toml, plain, faulty-workload, run, lists, control, verify, make, words, inside, questions,
-certify.
+certify, robust.
 """
 import argparse
 import collections

@@ -4,6 +4,7 @@ from typing import NamedTuple
 
 import sdd_path  # noqa: F401
 from sdd.bench import random_input as inputs
+from sdd.bench import small_transactions
 from sdd.model.catalogue import Class
 from sdd.model.spelling import catalogue_text, workload_text
 from sdd.reference.commands import answer
@@ -176,6 +177,23 @@ def inside_call(rng):
     return Call(["inside", "cat", "work"], files_of(*inputs.scheduled(rng, rng.random() < 0.3)))
 
 
+def questions_call(rng):
+    text = catalogue_text(inputs.catalogue(rng, rng.choice([3, 5, 8, 12])))
+    return Call([rng.choice(["robust", "needs"]), "cat"], {"cat": text.encode()})
+
+
+def robust_call(rng):
+    """Mostly small sets of transactions that meet often, and now and then a fault."""
+    if rng.random() < 0.75:
+        cat, work = small_transactions.CATALOGUE, small_transactions.drawn_set(rng)
+    else:
+        cat, work = inputs.workload(rng, rng.random() < 0.1)
+    files = files_of(cat, work)
+    if rng.random() < 0.1:
+        files["work"] = changed(rng, files["work"])
+    return Call(["robust", "cat", "work"], files)
+
+
 def lists_call(rng):
     return Call([rng.choice(["run", "run", "plain"]), "cat", "work"], files_of(*inputs.scheduled(rng, True)))
 
@@ -252,5 +270,5 @@ def words_call(rng):
 KINDS = {"catalogue": catalogue_call, "faulty-catalogue": faulty_catalogue_call, "toml": toml_call, "plain": plain_call,
          "faulty-workload": faulty_workload_call, "run": run_call, "lists": lists_call, "control": control_call,
          "verify": verify_call, "make": make_call, "words": words_call, "inside": inside_call, "questions": questions_call,
-         "certify": certify_call}
-OWN_PROGRAMS = {"inside": "inside", "questions": "ask", "certify": "ask"}       # of the kinds that aren't calls of sdd1
+         "certify": certify_call, "robust": robust_call}
+OWN_PROGRAMS = {"inside": "inside", "questions": "ask", "certify": "ask", "robust": "ask"}   # of the kinds that aren't calls of sdd1

@@ -33,6 +33,7 @@ NAMES = {"check": ["CAT"], "graph": ["CAT"], "table": ["CAT"], "advise": ["CAT"]
          "inside": ["CAT", "WORK"], "robust": ["CAT", "[WORK]"], "needs": ["CAT"], "verify": ["CAT", "WORK", "REPORT"],
          "certify": ["CAT", "WORK", "REPORT"], "control": ["FILE"], "make": ["SEED", "N"]}
 QUESTIONS = ("robust", "needs", "certify")
+ASKS_WHY = ("snapshot isolation: not shown", "snapshot isolation: not robust", "snapshot isolation: unknown")
 NOT_SERIALIZABLE = {"verify": b"no", "certify": b"serializable no"}
 
 
@@ -140,8 +141,20 @@ def main():
         answer = answer_of(program + rest, [x.path for x in files] or words)
         if answer.status:
             return refuse(answer, files[:2])            # a refusal is of the catalogue or the workload, and never of a report
+        if not asked.quiet and (hint := hint_at(word, answer.text.decode(errors="replace"))):
+            report_by(hint)
         text = as_json(word, answer.text.decode()).encode() if getattr(asked, "json", False) else answer.text
     return put(text) or int(word in NOT_SERIALIZABLE and answer.text.startswith(NOT_SERIALIZABLE[word]))
+
+
+def hint_at(word, text):
+    """Where an answer leads to a further question, what to ask; else nothing."""
+    first = text.partition("\n")[0]
+    if word == "robust" and first in ASKS_WHY:
+        return "what that means, and what helps: sdd explain \"%s\"" % first
+    if word == "advise" and " P3\n" in text:
+        return "on one ordinary database snapshot isolation gives each read P2; `sdd robust` asks whether that is enough where this says P3"
+    return None
 
 
 def put(text):

@@ -51,3 +51,18 @@ WITHOUT_FILE = {
     "write fault": "standard output took only a part of the text: its disk is full, or the program after a pipe ended",
     "no memory": "memory ran out; a smaller workload helps, or a machine with more",
 }
+# What `sdd robust` prints, and what helps.
+HELPS = ("let the pivot change what it reads, if only by += 0; keep in one row what has to be seen together; or run the transactions "
+         "of both kinds one after the other (docs/DESIGN.md, \"On an ordinary database\")")
+SNAPSHOTS = {
+    "snapshot isolation: enough": "no read has P3, so each history of these classes under snapshot isolation is serializable, "
+                                  "where of each class one transaction runs at a time",
+    "snapshot isolation: not shown": "a read has P3: its class changes something by which the change that it misses may be seen. "
+                                     "`sdd robust CAT WORK` asks it of the very transactions; else: " + HELPS,
+    "snapshot isolation: robust": "each run of these transactions under snapshot isolation, any number of each, is like a serial one",
+    "snapshot isolation: not robust": "the run that follows has no serial order: the first one misses a change, and somebody sees that "
+                                      "without its own. What helps: " + HELPS,
+    "snapshot isolation: unknown": "no run of up to four transactions shows that it goes wrong, and the columns that they read and change "
+                                   "don't show that it can't. The line that follows says where it might. What helps: " + HELPS,
+}
+PIVOT = "under snapshot isolation the pivot may miss a change that others see without the pivot's own. What helps: " + HELPS
