@@ -1,5 +1,5 @@
 -- Rows that deletes may take away, as the ranges of their keys; rows by item.
-use Rattle.std.proofs.Common.{Bool, List, None, Option, Some, [], ap, arith, cond, false, flat_map, int_cmp, is_some, map, refl, sym, true, ℕ, ℤ, ◌&&◌, ◌++◌, ◌==◌, ◌||◌, ◌∙◌, ◌∷◌, ◌≡◌}
+use Rattle.std.proofs.Common.{List, None, Some, [], ap, arith, cond, false, flat_map, is_some, refl, true, ℕ, ℤ, ◌&&◌, ◌==◌, ◌∙◌, ◌∷◌, ◌≡◌}
 use Rattle.std.proofs.lemmas.Int.{ints}
 use Rattle.std.proofs.lemmas.List.Folds.{list_any-append}
 use Rattle.std.specs.Borrow.{Bor}
@@ -7,15 +7,13 @@ use Rattle.std.specs.BTreeMap.{insert_entry, is_at}
 use Rattle.std.specs.List.{list_any}
 use Rattle.std.specs.Map.{lookup}
 use Rattle.std.specs.Prelude.{int_le}
-use Rattle.sdd_lang.specs.All.{Catalogue, Database, Interval, Item, RelNo, Row, Value, holds_some, item_cmp}
-use Rattle.sdd_lang.specs.declared.condition.Condition.{Condition}
+use Rattle.sdd_lang.specs.All.{Catalogue, Interval, Item, RelNo, Value, holds_some, item_cmp}
 use Rattle.sdd_lang.specs.declared.statement.Stmt.{Stmt}
 use Rattle.sdd_lang.specs.declared.statement.Stmt.TheVariants.{Delete, Put, Query, Update}
 use Rattle.sdd_lang.specs.declared.transaction.Txn.{Txn}
 use Rattle.sdd_robust_laws.specs.Accesses.{keys_of_part, may_delete}
 use Rattle.sdd_robust.specs.KeyRanges.{range_of}
 use Rattle.sdd_robust.specs.Settings.{deleted_by, deleted_in, is_in_range, lent_rows}
-use Rattle.sdd_robust.specs.declared.key_range.KeyRange.{KeyRange}
 use Rattle.std.specs.Option.{option_to_list}
 
 -- no key is within none

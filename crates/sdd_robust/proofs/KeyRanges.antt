@@ -1,18 +1,17 @@
 -- The keys that restrictions allow are of 64 bits, and accesses of them are accesses of their range.
-use Rattle.std.proofs.Common.{Bool, List, None, Option, Some, [], ap, arith, cond, false, flat_map, fold, map, refl, subst, sym, true, ℕ, ℤ, ◌++◌, ◌==◌, ◌∙◌, ◌∷◌, ◌≡◌, ◌≤ℤ◌}
+use Rattle.std.proofs.Common.{Bool, List, None, Some, [], ap, arith, cond, false, flat_map, fold, map, refl, subst, true, ℕ, ℤ, ◌==◌, ◌∙◌, ◌∷◌, ◌≡◌, ◌≤ℤ◌}
 use Rattle.std.proofs.lemmas.Int.{ints}
 use Rattle.std.specs.Prelude.{int_le}
-use Rattle.sdd_lang.proofs.KeyRanges.{at_most, some_within}
+use Rattle.sdd_lang.proofs.KeyRanges.{at_most}
 use Rattle.sdd_lang.proofs.catalog.Covering.{not_at_most as not_most}
 use Rattle.sdd_lang.proofs.catalog.FragmentOf.{le_true}
-use Rattle.sdd_lang.specs.All.{Catalogue, Interval, Op, RelNo, Restriction, all_keys, allowed_keys, common, holds_some, restrictions_of}
+use Rattle.sdd_lang.specs.All.{Catalogue, Interval, RelNo, Restriction, all_keys, allowed_keys, common, holds_some}
 use Rattle.sdd_lang.specs.Uses.{keys_for, larger, smaller}
 use Rattle.sdd_lang.specs.base.Order.{number_in}
 use Rattle.sdd_lang.specs.declared.assign.Assign.{Assign}
 use Rattle.sdd_lang.specs.declared.condition.Condition.{Condition}
 use Rattle.sdd_lang.specs.declared.condition.Ref.{Ref}
 use Rattle.sdd_robust_laws.specs.Accesses.{assigned_column, columns_read, keys_of_part, over_keys, read_part}
-use Rattle.sdd_robust_laws.specs.declared.access.Access.{Access}
 use Rattle.sdd_robust.specs.KeyRanges.{access_in, changes_in, range_of, reads_in}
 use Rattle.sdd_robust.specs.declared.key_range.KeyRange.{KeyRange}
 

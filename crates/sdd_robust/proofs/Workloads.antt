@@ -19,7 +19,6 @@ use Rattle.sdd_robust_laws.specs.declared.access.Access.{Access}
 use Rattle.sdd_robust.specs.Members.{kinds, members_from, members_of}
 use Rattle.sdd_robust.specs.Pivots.{IsPivot}
 use Rattle.sdd_robust.specs.Workloads.{IsPivotOf, accesses_at, accesses_in}
-use Rattle.sdd_robust.specs.declared.judging.Places.{Places}
 use Rattle.sdd_robust.specs.declared.member.Member.{Member}
 
 pub rows_fit : (cat : Catalogue) (work : Workload) → IsValid cat work → All (FitsStart cat) work.rows
@@ -89,16 +88,18 @@ by_places all same pivot own d p q P =
     subst (λ o. ((e : IsDangerous same o) → e.missed ≡ d.missed → e.missing ≡ d.missing → P) → P) q
     (subst (λ s. ((e : IsDangerous s pivot) → e.missed ≡ d.missed → e.missing ≡ d.missing → P) → P) p (λ f. f d refl refl))
 
--- where no pivot is found, the workload is shown robust, so it is
-pub robust : (cat : Catalogue) → ShownIsRobust cat → (work : Workload) → IsValid cat work → (all : List Member)
-    → all ≡ members_of cat work.txns (database_of cat work.rows)
+-- where no pivot is found, the workload is shown robust
+pub shown : (cat : Catalogue) (work : Workload) (all : List Member) → all ≡ members_of cat work.txns (database_of cat work.rows)
     → ((pivot : List Access) → Contains (kinds all) pivot → IsDangerous (kinds all) pivot → ⊥)
+    → IsShownRobust cat work.txns (database_of cat work.rows)
+shown cat work all is none =
+    subst (λ kinds. (pivot : List Access) → Contains kinds pivot → IsDangerous kinds pivot → ⊥)
+    (ap kinds is ∙ kinds_are cat work.txns (database_of cat work.rows)) none
+
+-- so it is robust
+pub robust : (cat : Catalogue) → ShownIsRobust cat → (work : Workload) → IsValid cat work → IsShownRobust cat work.txns (database_of cat work.rows)
     → IsRobust cat work.txns (database_of cat work.rows)
-robust cat law work valid all is none =
-    let first = database_of cat work.rows in
-    let shown : IsShownRobust cat work.txns first =
-    subst (λ kinds. (pivot : List Access) → Contains kinds pivot → IsDangerous kinds pivot → ⊥) (ap kinds is ∙ kinds_are cat work.txns first) none in
-    law work.txns (is_workload cat work valid) first (first_database cat work valid) shown
+robust cat law work valid is = law work.txns (is_workload cat work valid) (database_of cat work.rows) (first_database cat work valid) is
 
 -- one that is found is a pivot of the workload, by places
 pub pivot_of : (cat : Catalogue) (work : List Txn) (first : Database) (all : List Member) (pivot missed missing : Member)

@@ -1,9 +1,9 @@
 -- Where transactions run, and which rows their deletes may take away.
-use Rattle.std.specs.Prelude.{◌==◌, ◌&&◌, Bool, int_le, List, [], ◌∷◌, Option, Some, None, map}
+use Rattle.std.specs.Prelude.{◌==◌, ◌≡◌, ◌&&◌, Bool, false, int_le, List, [], map, pos, refl}
 use Rattle.std.specs.Borrow.{Bor}
 use Rattle.std.specs.List.{flat_map}
 use Rattle.std.specs.Option.{option_to_list}
-use Rattle.sdd_lang.specs.All.{Catalogue, Database, Item, Row, Value}
+use Rattle.sdd_lang.specs.All.{Catalogue, Database, Item, Value, rel_no}
 use Rattle.sdd_lang.specs.declared.statement.Stmt.{Stmt}
 use Rattle.sdd_lang.specs.declared.statement.Stmt.TheVariants.{Delete, Put, Query, Update}
 use Rattle.sdd_lang.specs.declared.transaction.Txn.{Txn}
@@ -11,7 +11,7 @@ use Rattle.sdd_robust_laws.specs.Accesses.{keys_of_part}
 use Rattle.sdd_robust.specs.KeyRanges.{range_of}
 use Rattle.sdd_robust.specs.declared.key_range.KeyRange.{KeyRange}
 
--- the transactions of a workload, and the database with which it begins
+-- a catalogue, the transactions of a workload, and the database with which it begins
 pub record Setting : Type 0 where
   pub cat : Catalogue
   pub work : List Txn
@@ -34,3 +34,6 @@ deleted_in cat work = flat_map (λ (txn : Txn). flat_map (deleted_by cat) txn.st
 -- whether the item's row is one of these
 abbrev pub is_in_range : Item → KeyRange → Bool
 is_in_range item range = (range.rel.0 == item.0) && (int_le range.least item.1 && int_le item.1 range.greatest)
+
+pub of_other_relation : is_in_range (2, pos 5) (record { rel = rel_no 1; least = pos 5; greatest = pos 9 }) ≡ false
+of_other_relation = refl

@@ -1,6 +1,6 @@
 //! What a transaction may read and change.
-ghost use Rattle.std.specs.Prelude.{◌≡◌, ◌≤◌, ◌++◌, ◌∷◌, [], Bool, false, true, length, map, IfOk, OnOk};
-ghost use Rattle.std.specs.List.{All, flat_map};
+ghost use Rattle.std.specs.Prelude.{◌≡◌, ◌++◌, [], false, true, map, IfOk, OnOk};
+ghost use Rattle.std.specs.List.{All};
 ghost use Rattle.sdd_lang.specs.All.{FitsStatement, FitsTxn, IsRelation, key_in};
 ghost use Rattle.sdd_lang.specs.declared.statement.Stmt.TheVariants.{Delete, Update};
 ghost use Rattle.sdd_robust_laws.specs.Accesses.{accesses, assigned_column, columns_read, over_keys, part_accesses, read_part, statement_accesses};
@@ -15,7 +15,8 @@ use sdd_robust_laws::Access;
 use std::alloc::Global;
 
 /// What the transaction may read and change, where it is one of the workload. Costs time in its
-/// statements, their conditions and columns, and for each update of one row in the deletes of the workload.
+/// statements, their conditions and columns, and for each update of one row in the deletes of the
+/// workload.
 pub(crate) fn accesses_of(
     alloc: Global,
     staying: &Staying<'_>,

@@ -3,6 +3,7 @@ ghost use Rattle.std.specs.Prelude.{◌≡◌, IfNone, IfOk, IfSome};
 ghost use Rattle.sdd_lang.specs.All.{database_of};
 ghost use Rattle.sdd_script.specs.All.{IsValid};
 ghost use Rattle.sdd_robust_laws.specs.Runs.{IsRobust};
+ghost use Rattle.sdd_robust_laws.specs.Shown.{IsShownRobust};
 ghost use Rattle.sdd_robust.specs.Members.{members_of};
 ghost use Rattle.sdd_robust.specs.Workloads.{IsPivotOf};
 
@@ -27,8 +28,8 @@ pub struct Places {
 /// submitted or not.
 ///
 /// Costs a logarithmic step for each initial row, time in the transactions, and for each update of one
-/// row time in the deletes of the workload. Takes memory for the accesses, and while it runs for the rows
-/// and the deletes.
+/// row time in the deletes of the workload. Takes memory for the accesses, and while it runs for a
+/// reference to each row and for the deletes.
 pub fn members(
     alloc: Global,
     catalogue: &Catalogue,
@@ -41,12 +42,12 @@ pub fn members(
     members_in(alloc, catalogue, work.rows.as_slice(), work.txns.as_slice())
 }
 
-/// The first pivot among the members of the workload, or None where there is none. Then the workload is
-/// robust: each run of its transactions under snapshot isolation, each any number of times, is like a
-/// serial one. Where there is one, the workload may be robust or not.
+/// The first pivot among the members of the workload, or None where no transaction may be one. Then the
+/// workload is robust: each run of its transactions under snapshot isolation, each any number of times,
+/// is like a serial one. Where there is a pivot, the workload may be robust or not.
 ///
-/// Costs, for each two transactions, time in the accesses of one times those of the other, and that once
-/// more for each access by which a transaction may be a pivot.
+/// Costs, for each two transactions, time in the accesses of one times those of the other; and for each
+/// access by which a transaction may miss changes of others, that once more for each of these.
 pub fn find_pivot(
     alloc: Global,
     catalogue: &Catalogue,
@@ -55,6 +56,8 @@ pub fn find_pivot(
 ) -> Result<Option<Places>, NoMemory>
     requires valid { IsValid catalogue.now work.now }
     requires members { all.now ≡ members_of catalogue.now work.now.txns (database_of catalogue.now work.now.rows) }
+    ensures shown { IfOk result (λ found. IfNone found
+        (IsShownRobust catalogue.now work.now.txns (database_of catalogue.now work.now.rows))) }
     ensures robust { IfOk result (λ found. IfNone found
         (IsRobust catalogue.now work.now.txns (database_of catalogue.now work.now.rows))) }
     ensures pivot { IfOk result (λ found. IfSome found

@@ -9,11 +9,11 @@ use std::alloc::Global;
 
 /// The rows of a relation with keys from one to another.
 #[derive(Clone, Copy)]
-pub struct KeyRange {
-    pub rel: RelNo,
+pub(crate) struct KeyRange {
+    pub(crate) rel: RelNo,
     /// The first and the last key, both within; the first isn't above the last.
-    pub least: i64,
-    pub greatest: i64,
+    pub(crate) least: i64,
+    pub(crate) greatest: i64,
 }
 
 /// The rows of a part that its conditions with constants allow, by their keys alone; None where they

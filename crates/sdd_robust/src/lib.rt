@@ -1,12 +1,12 @@
 //! The test by which the transactions of a workload, each any number of times, are shown to be robust
 //! under snapshot isolation.
 //!
-//! What a run under snapshot isolation is, when a workload is robust, what its transactions may read and
-//! change, and what the test asks, stands in `sdd_robust_laws`, with the law that a workload which passes
-//! is robust. To the layer above: `members` gives exactly what the transactions of a workload access;
-//! `find_pivot` finds none only where the workload is robust, and a pivot that it finds is dangerous by the
-//! two that are told with it (`specs/Workloads.antt`). `first_pivot` is the test over any accesses, and
-//! exact (`specs/Pivots.antt`).
+//! What a run under snapshot isolation is, when a workload is robust, what its transactions may read
+//! and change, and what the test asks, stands in `sdd_robust_laws`, with the law that a workload which
+//! passes is robust. To the layer above: `members` gives exactly what the transactions of a workload
+//! access; `find_pivot` finds none exactly where the workload passes, and then it is robust; a pivot that
+//! it finds is dangerous by the two that are told with it (`specs/Workloads.antt`). `first_pivot` is the
+//! test over any accesses (`specs/Pivots.antt`).
 #![tactic(auto)]
 
 mod accessing;

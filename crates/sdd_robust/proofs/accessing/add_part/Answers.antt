@@ -1,4 +1,4 @@
-use Rattle.std.proofs.Common.{OnOk, Some, None, subst, sym, ◌++◌, ◌∙◌, ◌≡◌}
+use Rattle.std.proofs.Common.{OnOk, subst, sym, ◌++◌, ◌∙◌, ◌≡◌}
 use Rattle.sdd_robust.proofs.AccessLists.{added_none, reads_of_range}
 use Rattle.sdd_robust.proofs.KeyRanges.{reads_none}
 use Rattle.sdd_robust.proofs.accessing.add_part.Goals as goal

@@ -1,4 +1,4 @@
-use Rattle.std.proofs.Common.{SFits as FitsSigned, ap, is_some, rules, to_z-of_z, w64, ◌∙◌}
+use Rattle.std.proofs.Common.{SFits as FitsSigned, rules, to_z-of_z, w64, ◌∙◌}
 use Rattle.sdd_robust.proofs.Deleted.{there_so}
 use Rattle.sdd_robust.proofs.staying.Staying.is_there.Goals as goal
 
