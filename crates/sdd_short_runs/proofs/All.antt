@@ -16,6 +16,6 @@ pub use Rattle.std.proofs.Common.{All, Bool, Contains, List, None, Option, Some,
 pub use Rattle.std.proofs.lemmas.Bool.{and_from, and_parts, not-true}
 pub use Rattle.std.proofs.lemmas.List.Sums.{fold-append}
 pub use Rattle.std.specs.List.{list_all, list_any, range_with_len}
-pub use Rattle.std.proofs.lemmas.List.{get_or-map, get_or_default, length-map, take_all, take_more}
+pub use Rattle.std.proofs.lemmas.List.{get_or-map, get_or_default, length-map, map-append, nil_from_length, take_all, take_more}
 pub use Rattle.std.proofs.lemmas.List.Elements.{Contains-get_or}
 pub use Rattle.std.proofs.lemmas.Result.{IfOk-weaker}

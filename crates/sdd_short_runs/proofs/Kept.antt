@@ -1,6 +1,7 @@
 -- What transactions and effects of a short run keep.
-use Rattle.sdd_short_runs.proofs.All.{All, Bool, Catalogue, Contains, Contains-get_or, Effect, IsOf, List, Txn, [], and_parts, ap, arith, change_one_item, length, list_all, not, slice_index_or, subst, succeeds, sym, true, ℕ, ◌&&◌, ◌++◌, ◌+◌, ◌<◌, ◌∷◌, ◌≡◌}
-use Rattle.std.proofs.lemmas.List.Elements.{All-cons, All-contains, All-nil, All-push}
+use Rattle.sdd_short_runs.proofs.All.{All, Bool, Catalogue, Contains, Contains-get_or, Effect, IsOf, List, Txn, [], and_parts, ap, arith, change_one_item, inl, inr, length, lent_txns, list_all, map-append, not, slice_index_or, subst, succeeds, sym, true, ℕ, ◌&&◌, ◌++◌, ◌+◌, ◌<◌, ◌∙◌, ◌∷◌, ◌≡◌}
+use Rattle.std.proofs.lemmas.List.Elements.{All-cons, All-contains, All-nil, All-push, Contains-push_cases}
+use Rattle.std.specs.Borrow.{Bor}
 
 -- what all members have
 pub all_members : {X : Type 0} (P : X → Type 0) (xs : List X) → ((x : X) → Contains xs x → P x) → All P xs
@@ -35,3 +36,13 @@ outer_fits P work outer inner of all = All-contains P work outer all of.outer_th
 
 pub inner_fit : (P : Txn → Type 0) (work : List Txn) (outer : Txn) (inner : List Txn) → IsOf work outer inner → All P work → All P inner
 inner_fit P work outer inner of all = all_members P inner (λ t h. All-contains P work t all (of.inner_there t h))
+
+-- one more transaction of the workload
+pub within_more : (work : List Txn) (inner more : List (Bor Txn)) (t : Bor Txn) → more ≡ inner ++ t ∷ [] → Contains work t.now
+    → ((u : Txn) → Contains (lent_txns inner) u → Contains work u) → (u : Txn) → Contains (lent_txns more) u → Contains work u
+within_more work inner more t are here all u h =
+    let lent : lent_txns more ≡ lent_txns inner ++ t.now ∷ [] = ap lent_txns are ∙ map-append (λ (x : Bor Txn). x.now) inner (t ∷ []) in
+    elim (Contains-push_cases (lent_txns inner) t.now u (subst (λ z. Contains z u) lent h)) [
+      | inl before ↦ all u before
+      | inr e ↦ subst (Contains work) e here
+    ]

@@ -43,10 +43,15 @@ fn by_number<'a>(alloc: Global, short: &ShortRun<'a>) -> Result<Vec<&'a Txn>, No
 }
 
 /// The numbers from 0, so many.
+#[tactic(auto, using(crate::proofs::Counterexamples::one_number_more))]
 fn numbers(alloc: Global, count: usize) -> Result<Vec<usize>, NoMemory>
     ensures { IfOk result (λ numbers. numbers.items ≡ range_with_len 0 count) }
 {
-    Ok((0..count).collect(alloc)?)
+    let mut numbers = Vec::new(alloc);
+    'numbers: for number in 0..count {
+        numbers.push(number)?;
+    }
+    Ok(numbers)
 }
 
 /// The effects by the numbers of the runs; None where not all of them commit.
@@ -149,6 +154,7 @@ fn short_run<'a>(
 }
 
 /// The transactions of members; None where one isn't there.
+#[tactic(auto, using(crate::proofs::Kept::within_more))]
 fn inner_of<'a>(
     alloc: Global,
     txns: &'a [Txn],
