@@ -5,7 +5,7 @@ pub use Rattle.sdd_lang.specs.declared.effect.Effect.{Effect}
 pub use Rattle.sdd_lang.specs.declared.transaction.Txn.{Txn}
 pub use Rattle.sdd_order.proofs.Members.{Contains-filter, Contains-from_filter}
 pub use Rattle.sdd_robust_laws.specs.Runs.{FirstWins, InTurn, IsCounterexample, IsSnapshotRun, change_one_item, ended_since, succeeds}
-pub use Rattle.sdd_short_runs.specs.Found.{IsOf}
+pub use Rattle.sdd_short_runs.specs.Found.{AreCommitted, IsOf}
 pub use Rattle.sdd_short_runs.specs.Orders.{BeginsWith, Explains, HasOrder, IsOrderOf, without}
 pub use Rattle.sdd_short_runs.specs.ShortRuns.{IsShortCounterexample, after_effects, effect_of, effects_in_turn, in_turn, lent_txns, short_log, txn_of}
 pub use Rattle.sdd_short_runs.specs.Tried.{IsTried, database_with, effect_at, last_database, txn_at}
@@ -16,6 +16,6 @@ pub use Rattle.std.proofs.Common.{All, Bool, Contains, List, None, Option, Some,
 pub use Rattle.std.proofs.lemmas.Bool.{and_from, and_parts, not-true}
 pub use Rattle.std.proofs.lemmas.List.Sums.{fold-append}
 pub use Rattle.std.specs.List.{list_all, list_any, range_with_len}
-pub use Rattle.std.proofs.lemmas.List.{take_all}
+pub use Rattle.std.proofs.lemmas.List.{get_or-map, get_or_default, length-map, map-append, nil_from_length, take_all, take_more}
 pub use Rattle.std.proofs.lemmas.List.Elements.{Contains-get_or}
 pub use Rattle.std.proofs.lemmas.Result.{IfOk-weaker}

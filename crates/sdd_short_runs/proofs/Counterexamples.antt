@@ -1,6 +1,8 @@
 -- A short run that all commit in, and that no order explains, is a counterexample.
-use Rattle.sdd_short_runs.proofs.All.{flat_map, Change, Bool, Catalogue, Contains, Contains-cases, Contains-here, Contains-later, Contains-nil, Database, Effect, Explains, HasOrder, IsCounterexample, IsOf, IsOrderOf, IsReplay, IsShortCounterexample, List, Log, Txn, [], after_changes, after_effects, and_parts, ap, arith, begins, change_one_item, cond, database, effect, effect_of, effects_in_turn, ended, ends, false, fold-append, in_turn, inl, inr, length, list_all, map, not, not-true, range_with_len, refl, short_log, slice_index_or, subst, succeeds, suc, sym, true, txn_of, zero, ℕ, ◌&&◌, ◌++◌, ◌+◌, ◌<◌, ◌∙◌, ◌∷◌, ◌≡◌, ◌≤◌, ◌⊎◌}
+use Rattle.sdd_short_runs.proofs.All.{AreCommitted, lent_txns, flat_map, Change, Bool, Catalogue, Contains, Contains-cases, Contains-here, Contains-later, Contains-nil, Database, Effect, Explains, HasOrder, IsCounterexample, IsOf, IsOrderOf, IsReplay, IsShortCounterexample, List, Log, Txn, [], after_changes, after_effects, and_parts, ap, arith, begins, change_one_item, cond, database, effect, effect_of, effects_in_turn, ended, ends, false, fold-append, in_turn, inl, inr, length, list_all, map, not, not-true, range_with_len, refl, short_log, slice_index_or, subst, succeeds, suc, sym, true, txn_of, zero, ℕ, ◌&&◌, ◌++◌, ◌+◌, ◌<◌, ◌∙◌, ◌∷◌, ◌≡◌, ◌≤◌, ◌⊎◌}
 use Rattle.sdd_short_runs.proofs.Searching.{made_all}
+use Rattle.sdd_short_runs.proofs.Turns.{long_lent}
+use Rattle.std.specs.Borrow.{Bor}
 use Rattle.sdd_short_runs.proofs.ShortLogs.{AreNext, AreNumbered, IsBegun, IsNext, all_more, are_ended, begins_alone, database_after, ended_are, is_run}
 
 -- numbers of a list
@@ -151,9 +153,9 @@ module _ (cat : Catalogue) (first : Database) (outer : Txn) (inner : List Txn) w
 
 -- as the code holds them: the outer one behind the inner ones
 
-long_range : (xs : List Effect) (x : Effect) → length (xs ++ x ∷ []) ≡ suc (length xs)
-long_range [] x = refl
-long_range (y ∷ xs) x = ap suc (long_range xs x)
+long_push : {X : Type 0} (xs : List X) (x : X) → length (xs ++ x ∷ []) ≡ suc (length xs)
+long_push [] x = refl
+long_push (y ∷ xs) x = ap suc (long_push xs x)
 
 pub refuted : (cat : Catalogue) (outer : Txn) (inner txns : List Txn) (effects : List Effect) (base : Database) (changes : List Change) (left : List ℕ)
     (e : Effect) (b : Bool) → txns ≡ inner ++ outer ∷ [] → changes ≡ flat_map (λ (f : Effect). f.changes) effects → left ≡ range_with_len 0 (length effects)
@@ -199,10 +201,45 @@ none_explains cat first outer inner effects are ok work of none =
     replies = λ i n. (sym (behind made own n)) i
 
     long : suc (length inner) ≡ length (made ++ own ∷ [])
-    long = ap suc (sym (long_effects cat first inner)) ∙ sym (long_range made own)
+    long = ap suc (sym (long_effects cat first inner)) ∙ sym (long_push made own)
 
     held : HasOrder cat (txn_of outer inner) (effect_of cat first outer inner) (after_effects cat first (made ++ own ∷ [])) first (range_with_len 0 (suc (length inner)))
         → HasOrder cat (txn_of outer inner) (λ n. slice_index_or (made ++ own ∷ []) n own) (after_effects cat first (made ++ own ∷ [])) first (range_with_len 0 (length (made ++ own ∷ [])))
     held has =
         subst (λ z. HasOrder cat (txn_of outer inner) z (after_effects cat first (made ++ own ∷ [])) first (range_with_len 0 (length (made ++ own ∷ [])))) replies
         (subst (λ z. HasOrder cat (txn_of outer inner) (effect_of cat first outer inner) (after_effects cat first (made ++ own ∷ [])) first (range_with_len 0 z)) long has)
+
+-- there are as many effects as transactions, and as many numbers
+
+pub as_many : (cat : Catalogue) (first : Database) (outer : Txn) (inner : List Txn) (txns : List (Bor Txn)) (effects : List Effect)
+    → lent_txns txns ≡ inner ++ outer ∷ [] → effects ≡ effects_in_turn cat first inner ++ effect cat first outer ∷ [] → length txns ≡ length effects
+as_many cat first outer inner txns effects texts made =
+    sym (long_lent txns) ∙ ap length texts ∙ long_push inner outer ∙ ap suc (sym (long_effects cat first inner))
+    ∙ sym (long_push (effects_in_turn cat first inner) (effect cat first outer)) ∙ sym (ap length made)
+
+pub all_there : (numbers : List ℕ) (count many : ℕ) → numbers ≡ range_with_len 0 count → many ≡ count → (n : ℕ) → Contains numbers n → n < many
+all_there numbers count many are same n h =
+    let l = are_below count n (subst (λ z. Contains z n) are h) in omega arith
+
+-- one number more
+range_last : (a n : ℕ) → range_with_len a (suc n) ≡ range_with_len a n ++ (a + n) ∷ []
+range_last a zero = ap (λ m. m ∷ []) (omega arith)
+range_last a (suc n) = ap (λ rest. a ∷ rest) (range_last (a + 1) n ∙ ap (λ m. range_with_len (a + 1) n ++ m ∷ []) (omega arith))
+
+pub one_number_more : (numbers : List ℕ) (n : ℕ) → numbers ≡ range_with_len 0 n → numbers ++ n ∷ [] ≡ range_with_len 0 (n + 1)
+one_number_more numbers n are =
+    let next : suc n ≡ n + 1 = omega arith in
+    let last : 0 + n ≡ n = omega arith in
+    ap (λ z. z ++ n ∷ []) are ∙ ap (λ m. range_with_len 0 n ++ m ∷ []) (sym last) ∙ sym (range_last 0 n) ∙ ap (range_with_len 0) next
+
+-- effects in which all commit
+pub are_committed : (cat : Catalogue) (first : Database) (outer : Txn) (inner : List Txn) (own : Effect) (made effects : List Effect)
+    → own ≡ effect cat first outer → made ≡ effects_in_turn cat first inner → effects ≡ made ++ own ∷ []
+    → (succeeds own.reply && list_all (λ e. succeeds e.reply && not (change_one_item cat e own)) made) ≡ true
+    → AreCommitted cat first outer inner effects
+are_committed cat first outer inner own made effects a b e ok =
+    record {
+      are = e ∙ ap (λ z. made ++ z ∷ []) a ∙ ap (λ z. z ++ effect cat first outer ∷ []) b;
+      commit = subst (λ z. (succeeds z.reply && list_all (λ f. succeeds f.reply && not (change_one_item cat f z)) (effects_in_turn cat first inner)) ≡ true) a
+          (subst (λ z. (succeeds own.reply && list_all (λ f. succeeds f.reply && not (change_one_item cat f own)) z) ≡ true) b ok);
+    }

@@ -136,14 +136,19 @@ fn may_end_within(catalogue: &Catalogue, inner: &Effect, outer: &Effect) -> bool
     succeeds(&inner.reply) && !change_one_item(catalogue, inner, outer)
 }
 
+fn each_may_end(catalogue: &Catalogue, outer: &Effect, inner: &[Effect]) -> bool
+    ensures { result ≡ list_all (λ e. succeeds e.reply && not (change_one_item catalogue.now e outer.now)) inner.now }
+{
+    inner
+        .iter()
+        .all(|effect| may_end_within(catalogue, effect, outer))
+}
+
 /// Whether all of them commit where one runs while the others run one after the other.
 pub(crate) fn all_commit(catalogue: &Catalogue, outer: &Effect, inner: &[Effect]) -> bool
     ensures { result ≡ (succeeds outer.now.reply && list_all (λ e. succeeds e.reply && not (change_one_item catalogue.now e outer.now)) inner.now) }
 {
-    succeeds(&outer.reply)
-        && inner
-            .iter()
-            .all(|effect| may_end_within(catalogue, effect, outer))
+    succeeds(&outer.reply) && each_may_end(catalogue, outer, inner)
 }
 
 /// Whether two replies are one, where the first is no failure.

@@ -6,8 +6,7 @@ ghost use Rattle.std.specs.Map.{keys_of};
 ghost use Rattle.sdd_lang.specs.All.{FitsStart, FitsTxn, IsDatabase, database_of, item_cmp};
 ghost use Rattle.sdd_lang.specs.declared.effect.Effect.{Effect};
 ghost use Rattle.sdd_lang.specs.declared.transaction.Txn.{Txn};
-ghost use Rattle.sdd_robust_laws.specs.Runs.{succeeds};
-ghost use Rattle.sdd_short_runs.specs.Found.{IsOf};
+ghost use Rattle.sdd_short_runs.specs.Found.{AreCommitted, IsOf};
 ghost use Rattle.sdd_short_runs.specs.Orders.{HasOrder};
 ghost use Rattle.sdd_short_runs.specs.ShortRuns.{IsShortCounterexample, after_effects, lent_txns, txn_of};
 
@@ -44,10 +43,37 @@ fn by_number<'a>(alloc: Global, short: &ShortRun<'a>) -> Result<Vec<&'a Txn>, No
 }
 
 /// The numbers from 0, so many.
+#[tactic(auto, using(crate::proofs::Counterexamples::one_number_more))]
 fn numbers(alloc: Global, count: usize) -> Result<Vec<usize>, NoMemory>
     ensures { IfOk result (λ numbers. numbers.items ≡ range_with_len 0 count) }
 {
-    Ok((0..count).collect(alloc)?)
+    let mut numbers = Vec::new(alloc);
+    'numbers: for number in 0..count {
+        numbers.push(number)?;
+    }
+    Ok(numbers)
+}
+
+/// The effects by the numbers of the runs; None where not all of them commit.
+fn committed(
+    alloc: Global,
+    catalogue: &Catalogue,
+    base: &Plain,
+    short: &ShortRun,
+) -> Result<Option<Vec<Effect>>, NoMemory>
+    requires sorted { IsStrictlySortedBy item_cmp (keys_of base.now.value) }
+    requires outer { FitsTxn catalogue.now short.now.outer.now }
+    requires inner { All (FitsTxn catalogue.now) (lent_txns short.now.inner.items) }
+    ensures { IfOk result (λ found. IfSome found (λ effects.
+        AreCommitted catalogue.now base.now.value short.now.outer.now (lent_txns short.now.inner.items) effects.items)) }
+{
+    let outer = effect_after(alloc, catalogue, base, &[], short.outer)?;
+    let mut effects = run_in_turn(alloc, catalogue, base, short.inner.as_slice())?;
+    if !all_commit(catalogue, &outer, effects.as_slice()) {
+        return Ok(None);
+    }
+    effects.push(outer)?;
+    Ok(Some(effects))
 }
 
 /// Whether all of them commit, and no order gives their replies and the rows at the end.
@@ -63,13 +89,13 @@ fn is_counterexample(
     ensures { IfOk result (λ found. found ≡ true → (work : List Txn) → IsOf work short.now.outer.now (lent_txns short.now.inner.items)
         → IsShortCounterexample catalogue.now work base.now.value short.now.outer.now (lent_txns short.now.inner.items)) }
 {
-    let outer = effect_after(alloc, catalogue, base, &[], short.outer)?;
-    let mut effects = run_in_turn(alloc, catalogue, base, short.inner.as_slice())?;
-    if !all_commit(catalogue, &outer, effects.as_slice()) {
-        return Ok(false);
+    match committed(alloc, catalogue, base, short)? {
+        Some(effects) => {
+            let none = has_none(alloc, catalogue, base, short, effects.as_slice())?;
+            Ok(none)
+        }
+        None => Ok(false),
     }
-    effects.push(outer)?;
-    has_none(alloc, catalogue, base, short, effects.as_slice())
 }
 
 /// Whether no order of the run's transactions, which have these effects, gives their replies and the
@@ -84,8 +110,7 @@ fn has_none(
     requires sorted { IsStrictlySortedBy item_cmp (keys_of base.now.value) }
     requires outer { FitsTxn catalogue.now short.now.outer.now }
     requires inner { All (FitsTxn catalogue.now) (lent_txns short.now.inner.items) }
-    requires succeed { All (λ (e : Effect). succeeds e.reply ≡ true) effects.now }
-    requires as_many { length effects.now ≡ length short.now.inner.items + 1 }
+    requires committed { AreCommitted catalogue.now base.now.value short.now.outer.now (lent_txns short.now.inner.items) effects.now }
     ensures { IfOk result (λ none. none ≡ true → (e : Effect)
         → HasOrder catalogue.now (txn_of short.now.outer.now (lent_txns short.now.inner.items)) (λ n. slice_index_or effects.now n e)
         (after_effects catalogue.now base.now.value effects.now) base.now.value (range_with_len 0 (length effects.now)) → ⊥) }
@@ -100,7 +125,15 @@ fn has_none(
         effects,
         changes: changes.as_slice(),
     };
-    Ok(!has_order(alloc, &run, left.as_slice(), &[])?)
+    let found = has_order(alloc, &run, left.as_slice(), &[])?;
+    Ok(!found)
+}
+
+/// The transaction at a place, where there is one.
+fn txn_at(txns: &[Txn], place: usize) -> Option<&Txn>
+    ensures { IfSome result (λ txn. Contains txns.now txn.now) }
+{
+    txns.get(place)
 }
 
 /// The transactions of a candidate.
@@ -111,7 +144,7 @@ fn short_run<'a>(
 ) -> Result<Option<ShortRun<'a>>, NoMemory>
     ensures { IfOk result (λ found. IfSome found (λ s. IsOf txns.now s.outer.now (lent_txns s.inner.items))) }
 {
-    match txns.get(candidate.pivot.place) {
+    match txn_at(txns, candidate.pivot.place) {
         Some(outer) => match inner_of(alloc, txns, candidate.path.as_slice())? {
             Some(inner) => Ok(Some(ShortRun { outer, inner })),
             None => Ok(None),
@@ -121,6 +154,7 @@ fn short_run<'a>(
 }
 
 /// The transactions of members; None where one isn't there.
+#[tactic(auto, using(crate::proofs::Kept::within_more))]
 fn inner_of<'a>(
     alloc: Global,
     txns: &'a [Txn],
@@ -130,7 +164,7 @@ fn inner_of<'a>(
 {
     let mut inner = Vec::with_capacity(alloc, path.len())?;
     'path: for member in path {
-        match txns.get(member.place) {
+        match txn_at(txns, member.place) {
             Some(txn) => inner.push(txn)?,
             None => return Ok(None),
         }

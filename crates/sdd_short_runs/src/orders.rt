@@ -67,7 +67,9 @@ fn effect_of(alloc: Global, run: &Run, made: &[Change], number: usize) -> Result
     requires there { number < length run.now.txns.now }
     ensures { IfOk result (λ found. (d : Txn) → found ≡ effect run.now.catalogue.now (database_with run.now made.now) (txn_at run.now d number)) }
 {
-    effect_after(alloc, run.catalogue, run.base, made, run.txns[number])
+    let txns = run.txns;
+    let txn = txns[number];
+    effect_after(alloc, run.catalogue, run.base, made, txn)
 }
 
 /// Whether the effect has the reply of the run of this number.
@@ -129,7 +131,7 @@ pub(crate) fn has_order<'a>(
     if left.is_empty() {
         return is_last(alloc, run, made);
     }
-    'left: for number in left {
+    'numbers: for number in left {
         match begin_with(alloc, run, left, made, *number)? {
             Some(begun) => {
                 let found = has_order(alloc, run, begun.left.as_slice(), begun.made.as_slice())?;
