@@ -2,6 +2,7 @@
 
 It shares nothing with the reference's answer: every order of those that commit is tried.
 """
+from functools import cache
 from itertools import permutations
 
 from sdd.judge.effect import effect, first_database
@@ -50,6 +51,12 @@ def make(database, changes):
 def one_while_others_run(count):
     """The steps of a run in which the first begins, the others run one after the other, and the first ends."""
     return [0] + [n for n in range(1, count) for _ in (0, 1)] + [0]
+
+
+@cache
+def all_steps(count):
+    """The steps of every run: each list that names each transaction twice."""
+    return sorted(set(permutations([n for n in range(count) for _ in (0, 1)])))
 
 
 def drawn_steps(rng, count):

@@ -81,36 +81,5 @@ def rows_meet(x, y):
     return x.relation == y.relation and x.least <= y.greatest and y.least <= x.greatest
 
 
-def meet(x, y):
-    """Whether both have a column of a row."""
-    return rows_meet(x, y) and (ALL_COLUMNS in (x.column, y.column) or x.column == y.column)
-
-
 def are_of_one_row(x, y):
     return rows_meet(x, y) and x.least == x.greatest and y.least == y.greatest
-
-
-# An access of one transaction, and the accesses of another.
-
-def reads_from(x, others):
-    """Whether the access may read what the transaction may change."""
-    return x.reads and any(y.changes and meet(x, y) for y in others)
-
-
-def changes_for(y, others):
-    """Whether the access may change what the transaction may read."""
-    return y.changes and any(x.reads and meet(x, y) for x in others)
-
-
-def changes_with(x, others):
-    """Whether the access may change a row that the transaction may change, be it in other columns."""
-    return x.changes and any(y.changes and rows_meet(x, y) for y in others)
-
-
-def conflict(xs, ys):
-    return any(reads_from(x, ys) or changes_for(x, ys) or changes_with(x, ys) for x in xs)
-
-
-def are_apart(xs, ys):
-    """Whether both change one row for sure: of two runs of them that are at once one doesn't commit."""
-    return any(x.sure and y.sure and rows_meet(x, y) for x in xs for y in ys)
