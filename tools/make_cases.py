@@ -21,12 +21,14 @@ catalogue_faults.txt      `NAME | CATALOGUE | FAULT | OLD => NEW`, the catalogue
                           replaced, `NAME | CATALOGUE | FAULT | + LINE / LINE ..` with lines behind it,
                           or `NAME | - | FAULT | LINE / LINE ..` with nothing else
 workload_faults.txt       `NAME | CATALOGUE | FAULT | LINE / LINE ..`
+robust.txt                `NAME | CATALOGUE | ANSWER | LINE / LINE ..`, a workload of `robust` of `sdd1_ask`,
+                          and what is answered, written by hand
 controls.txt              `NAME | FAULT | LINE / LINE ..`, a file of transaction control
 *.cases                   cases as the program reads them; behind a case, lines `expect LINE` have the
                           answer that is written by hand, LINE as the program prints it
 
 A FAULT is what is reported, as `line 2: BadNumber`, or `accepted`; the script stops where the reference
-tells another. The format that the program reads is described in crates/sdd_cases/src/main.rt.
+tells another, and so for an ANSWER. The format that the program reads is described in crates/sdd_cases/src/main.rt.
 """
 import argparse
 import os
@@ -198,6 +200,15 @@ def read_workload_faults(path, kept):
     return cases
 
 
+def read_robust(path, kept):
+    cases = []
+    for name, base, text, work in table(path):
+        lines = ["program sdd1_ask", "words robust cat work", "file cat " + base, "text work"] + ["|" + x for x in work.split(" / ")]
+        cases.append(made("robust: " + name, lines, kept))
+        cases[-1].text = ["|" + x for x in ("snapshot isolation: " + text).split(" / ")]
+    return cases
+
+
 def read_controls(path, kept):
     cases = []
     for name, fault, text in table(path, 3):
@@ -206,8 +217,11 @@ def read_controls(path, kept):
     return cases
 
 
-def check_fault(case, lines):
-    """The fault that the table has is what the reference tells."""
+def check_answer(case, lines):
+    """The fault or the text that a table has is what the reference tells."""
+    text = getattr(case, "text", None)
+    if text is not None and lines[1:] != text:
+        sys.exit("%s: the table has %r, the reference %r" % (case.name, text, lines[1:]))
     fault = getattr(case, "fault", None)
     if fault is None:
         return
@@ -237,6 +251,7 @@ def read_all(kept, but=()):
     cases += read_workloads(os.path.join(CASES, "workloads.txt"), kept)
     cases += read_catalogue_faults(os.path.join(CASES, "catalogue_faults.txt"), kept)
     cases += read_workload_faults(os.path.join(CASES, "workload_faults.txt"), kept)
+    cases += read_robust(os.path.join(CASES, "robust.txt"), kept)
     cases += read_controls(os.path.join(CASES, "controls.txt"), kept)
     for name in sorted(os.listdir(CASES)):
         if name.endswith(".cases") and name not in but:
@@ -254,7 +269,7 @@ def made_files(cases, kept, outside):
             given += ["", "keep " + name] + text_lines(data)
     for case in cases:
         lines = expected_lines(outside, case)
-        check_fault(case, lines)
+        check_answer(case, lines)
         given += ["", "case " + case.name] + case.lines
         want += ["case " + case.name] + lines
     return {"stdin": given, "stdout": want}

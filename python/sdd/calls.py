@@ -7,7 +7,7 @@
 CAT is a catalogue, WORK a workload (docs/FORMATS.md); `-` is standard input. The text is that of the program to the
 byte, and so is the status, but that `verify` and `certify` end with 1 where the report is not serializable. A refusal of a
 file is printed with its place there, marked, the cause, and what helps. With --json all but `advise`, `inside`, `control` and
-`certify` print JSON (`inside` always does). `robust` with a workload is answered by the reference alone.
+`certify` print JSON (`inside` always does).
 
 The program is that of --program (and --inside; for `robust`, `needs` and `certify` the `sdd1_ask` beside it); else the proved one,
 where it is installed; else an unproved build; else the reference of this package, which needs Python alone and is slower. A
@@ -88,10 +88,6 @@ def files_of(words, room):
 
 def program_of(word, asked):
     """The words that begin the program's command, and those that follow them."""
-    if word == "robust" and asked.work is not None:
-        if asked.program not in (None, "reference"):
-            raise BadInput("robust with a workload is answered by the reference alone: leave --program out")
-        return find_ask("reference"), [word]
     if word in QUESTIONS:
         return find_ask(asked.program), [word]
     programs = find_programs(asked.program, asked.inside)

@@ -16,6 +16,8 @@ pub enum Question {
 pub enum Asked<'a> {
     /// A question about a catalogue.
     OfCatalogue(Question, &'a str),
+    /// Whether snapshot isolation is enough for the transactions of a workload.
+    RobustWorkload(&'a str, &'a str),
     /// What a report, the last, promises of a workload.
     Certify(&'a str, &'a str, &'a str),
 }
@@ -29,6 +31,10 @@ pub fn asked_in<'a>(words: &'a [String]) -> Option<Asked<'a>>
         [word, catalogue] => match word.as_str() {
             "robust" => Some(Asked::OfCatalogue(Question::Robust, catalogue.as_str())),
             "needs" => Some(Asked::OfCatalogue(Question::Needs, catalogue.as_str())),
+            _ => None,
+        },
+        [word, catalogue, workload] => match word.as_str() {
+            "robust" => Some(Asked::RobustWorkload(catalogue.as_str(), workload.as_str())),
             _ => None,
         },
         [word, catalogue, workload, report] => match word.as_str() {

@@ -8,11 +8,12 @@ ghost use Rattle.sdd_app_ask.specs.Forms.{IsNoForm};
 use crate::asked::{Asked, asked_in};
 use crate::certifying::certify_answer;
 use crate::questions::question_answer;
+use crate::transactions::robust_answer;
 use sdd_lang::{Pages, Shelf, Sink};
 use sdd_shell::{Status, end_call};
 use std::alloc::Global;
 
-const USAGE: &[u8] = b"usage: sdd1_ask robust CAT | needs CAT | certify CAT WORK REPORT\n";
+const USAGE: &[u8] = b"usage: sdd1_ask robust CAT [WORK] | needs CAT | certify CAT WORK REPORT\n";
 
 /// The text for the words, or the status of a call that prints none.
 fn answer<S: Shelf>(alloc: Global, words: &[String], shelf: &mut S) -> Result<Pages, Status>
@@ -26,6 +27,9 @@ fn answer<S: Shelf>(alloc: Global, words: &[String], shelf: &mut S) -> Result<Pa
         Some(asked) => match asked {
             Asked::OfCatalogue(question, catalogue) => {
                 question_answer(alloc, shelf, catalogue, question)
+            }
+            Asked::RobustWorkload(catalogue, workload) => {
+                robust_answer(alloc, shelf, catalogue, workload)
             }
             Asked::Certify(catalogue, workload, report) => {
                 certify_answer(alloc, shelf, catalogue, workload, report)

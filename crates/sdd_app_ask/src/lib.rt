@@ -2,14 +2,16 @@
 //!
 //! `run_ask` is the one contract to the layer above. Its words are a question and the names of the files
 //! that it is about; what it comes to is defined in `specs/Answer.antt`: the first fault of the catalogue
-//! or of the workload, or the answer, of the catalogue alone (`sdd_ask`) or of a report on the workload
-//! (`sdd_certify`). How a call ends, and how its first files are read and judged, is `sdd_shell`'s.
+//! or of the workload, or the answer, of the catalogue alone (`sdd_ask`), of the transactions of the
+//! workload (`sdd_robust_answer`), or of a report on it (`sdd_certify`). How a call ends, and how its
+//! first files are read and judged, is `sdd_shell`'s.
 #![tactic(auto)]
 
 mod asked;
 mod asking;
 mod certifying;
 mod questions;
+mod transactions;
 
 pub use asked::Question;
 pub use asking::run_ask;

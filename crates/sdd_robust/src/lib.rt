@@ -10,17 +10,19 @@
 #![tactic(auto)]
 
 mod accessing;
-mod beside;
 mod columns;
 mod judging;
 mod key_range;
 mod linked;
 mod listing;
+mod meanwhile;
 mod meeting;
 mod member;
 mod pivot;
 mod staying;
 
 pub use judging::{Places, find_pivot, members};
+pub use meanwhile::beside;
+pub use meeting::{conflict, may_miss, reads_from};
 pub use member::{Accesses, Member};
 pub use pivot::{Pivot, first_pivot};

@@ -90,7 +90,7 @@ fn one_surely_changes(x: &Access, others: &[Access]) -> bool
 }
 
 /// Whether the access may read what the transaction may change.
-pub(crate) fn reads_from(x: &Access, others: &[Access]) -> bool
+pub fn reads_from(x: &Access, others: &[Access]) -> bool
     ensures { result ≡ reads_from x.now others.now }
 {
     x.reads && one_changes(x, others)
@@ -117,7 +117,7 @@ fn conflicts(x: &Access, others: &[Access]) -> bool
 }
 
 /// Whether one may read or change what the other may change, or the other way round.
-pub(crate) fn conflict(xs: &[Access], ys: &[Access]) -> bool
+pub fn conflict(xs: &[Access], ys: &[Access]) -> bool
     ensures { result ≡ conflict xs.now ys.now }
 {
     xs.iter().any(|x| conflicts(x, ys))
@@ -144,7 +144,7 @@ fn misses(change: &Access, other: &[Access], read: &Access) -> bool
 
 /// Whether the other transaction may read what the pivot changes, where it isn't one row with what the
 /// pivot reads by this access.
-pub(crate) fn may_miss(other: &[Access], pivot: &[Access], read: &Access) -> bool
+pub fn may_miss(other: &[Access], pivot: &[Access], read: &Access) -> bool
     ensures { result ≡ may_miss other.now pivot.now read.now }
 {
     pivot.iter().any(|change| misses(change, other, read))

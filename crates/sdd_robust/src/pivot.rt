@@ -9,8 +9,8 @@ ghost use Rattle.sdd_robust.specs.Members.{kinds, lent};
 ghost use Rattle.sdd_robust.specs.Pivots.{Closes, IsPivot, may_miss};
 ghost use Rattle.sdd_robust.specs.declared.member.Member.{Member};
 
-use crate::beside::beside;
 use crate::linked::linked;
+use crate::meanwhile::beside;
 use crate::meeting::{may_miss, reads_from};
 use crate::member::Member;
 use sdd_lang::NoMemory;

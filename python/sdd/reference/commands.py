@@ -3,8 +3,8 @@
     sdd reference [--break RULE] WORD ..        RULE is one of those of sdd/reference/breaking.py
     sdd reference inside CAT WORK               the states of a run, as JSON lines (sdd/reference/inside.py)
     sdd reference robust CAT | needs CAT        what `sdd1_ask` answers (sdd/reference/ask.py)
+    sdd reference robust CAT WORK               the same of transactions (sdd/reference/robust.py)
     sdd reference certify CAT WORK REPORT       the same of a report (sdd/reference/certify.py)
-    sdd reference robust CAT WORK               whether transactions are robust (sdd/reference/robust.py)
 
 From words and files it makes a status, a line on standard error, and a text. Words are judged first, then the catalogue, then the workload, then the report. Definition: docs/FORMATS.md, "Words";
 crates/sdd_app/specs/Answer.antt, Command.antt.

@@ -10,7 +10,7 @@ use sdd_robust_laws::Access;
 use std::alloc::Global;
 
 /// Those that may run while the pivot does, and both commit.
-pub(crate) fn beside<'a>(
+pub fn beside<'a>(
     alloc: Global,
     all: &'a [Member],
     pivot: &[Access],

@@ -1,0 +1,3 @@
+mod All
+pub mod Entries
+pub mod Chosen

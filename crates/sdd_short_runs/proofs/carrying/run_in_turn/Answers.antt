@@ -1,0 +1,7 @@
+use Rattle.sdd_short_runs.proofs.All.{FitsTxn, arith}
+use Rattle.sdd_short_runs.proofs.Turns.{fits_at}
+use Rattle.sdd_short_runs.proofs.carrying.run_in_turn.Goals as goal
+
+pub next_effect-requires-clause-fits : goal.next_effect-requires-clause-fits
+next_effect-requires-clause-fits c =
+    fits_at (FitsTxn c.args.catalogue.now) c.args.txns.now c.txns.txn-index c.txn-item.result (omega arith) c.txn-item.is c.requires.fit

@@ -1,0 +1,8 @@
+use Rattle.sdd_short_runs.proofs.All.{FitsTxn, lent_txns}
+use Rattle.sdd_short_runs.proofs.Kept.{inner_fit}
+use Rattle.sdd_short_runs.proofs.finding.first_of.Goals as goal
+
+pub is_counterexample-requires-clause-inner : goal.is_counterexample-requires-clause-inner
+is_counterexample-requires-clause-inner c =
+    inner_fit (FitsTxn c.args.catalogue.now) c.args.txns.now c.in-Some.short.outer.now (lent_txns c.in-Some.short.inner.items)
+    (rw c.in-Some.is at c.in_ok-short.ensures) c.requires.fit

@@ -1,0 +1,5 @@
+pub mod ShortRuns
+pub mod Orders
+pub mod Found
+pub mod Tried
+pub mod Examples

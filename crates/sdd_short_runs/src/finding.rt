@@ -1,0 +1,253 @@
+//! The first short run that is like no serial one.
+ghost use Rattle.std.specs.Prelude.{◌≡◌, ◌+◌, ◌++◌, ◌∷◌, [], ℕ, Contains, IfOk, IfSome, List, length, slice_index_or, true};
+ghost use Rattle.std.specs.List.{All, range_with_len};
+ghost use Rattle.std.specs.List.Sorted.{IsStrictlySortedBy};
+ghost use Rattle.std.specs.Map.{keys_of};
+ghost use Rattle.sdd_lang.specs.All.{FitsStart, FitsTxn, IsDatabase, database_of, item_cmp};
+ghost use Rattle.sdd_lang.specs.declared.effect.Effect.{Effect};
+ghost use Rattle.sdd_lang.specs.declared.transaction.Txn.{Txn};
+ghost use Rattle.sdd_short_runs.specs.Found.{AreCommitted, IsOf};
+ghost use Rattle.sdd_short_runs.specs.Orders.{HasOrder};
+ghost use Rattle.sdd_short_runs.specs.ShortRuns.{IsShortCounterexample, after_effects, lent_txns, txn_of};
+
+use crate::candidates::{Candidate, candidates_of};
+use crate::carrying::{all_commit, changes_of, effect_after, run_in_turn};
+use crate::orders::{Run, has_order};
+use sdd_lang::{Catalogue, Effect, NoMemory, RelNo, Row, Txn, law_rows_make_database};
+use sdd_plain::Plain;
+use sdd_robust::Member;
+use std::alloc::Global;
+
+/// Candidates of one length that are tried.
+const MAX_TRIED: usize = 256;
+
+/// Transactions that run while the first one does.
+const MAX_INNER: usize = 3;
+
+/// A short run: the outer transaction begins, the inner ones run one after the other, and the outer one
+/// ends.
+#[derive(Drop)]
+pub struct ShortRun<'a> {
+    pub outer: &'a Txn,
+    pub inner: Vec<&'a Txn>,
+}
+
+/// The transactions of the run by their numbers: the inner ones, and behind them the outer one.
+fn by_number<'a>(alloc: Global, short: &ShortRun<'a>) -> Result<Vec<&'a Txn>, NoMemory>
+    ensures { IfOk result (λ txns. lent_txns txns.items ≡ lent_txns short.now.inner.items ++ short.now.outer.now ∷ []) }
+{
+    let mut txns = Vec::new(alloc);
+    txns.extend_from_slice(short.inner.as_slice())?;
+    txns.push(short.outer)?;
+    Ok(txns)
+}
+
+/// The numbers from 0, so many.
+#[tactic(auto, using(crate::proofs::Counterexamples::one_number_more))]
+fn numbers(alloc: Global, count: usize) -> Result<Vec<usize>, NoMemory>
+    ensures { IfOk result (λ numbers. numbers.items ≡ range_with_len 0 count) }
+{
+    let mut numbers = Vec::new(alloc);
+    'numbers: for number in 0..count {
+        numbers.push(number)?;
+    }
+    Ok(numbers)
+}
+
+/// The effects by the numbers of the runs; None where not all of them commit.
+fn committed(
+    alloc: Global,
+    catalogue: &Catalogue,
+    base: &Plain,
+    short: &ShortRun,
+) -> Result<Option<Vec<Effect>>, NoMemory>
+    requires sorted { IsStrictlySortedBy item_cmp (keys_of base.now.value) }
+    requires outer { FitsTxn catalogue.now short.now.outer.now }
+    requires inner { All (FitsTxn catalogue.now) (lent_txns short.now.inner.items) }
+    ensures { IfOk result (λ found. IfSome found (λ effects.
+        AreCommitted catalogue.now base.now.value short.now.outer.now (lent_txns short.now.inner.items) effects.items)) }
+{
+    let outer = effect_after(alloc, catalogue, base, &[], short.outer)?;
+    let mut effects = run_in_turn(alloc, catalogue, base, short.inner.as_slice())?;
+    if !all_commit(catalogue, &outer, effects.as_slice()) {
+        return Ok(None);
+    }
+    effects.push(outer)?;
+    Ok(Some(effects))
+}
+
+/// Whether all of them commit, and no order gives their replies and the rows at the end.
+fn is_counterexample(
+    alloc: Global,
+    catalogue: &Catalogue,
+    base: &Plain,
+    short: &ShortRun,
+) -> Result<bool, NoMemory>
+    requires database { IsDatabase catalogue.now base.now.value }
+    requires outer { FitsTxn catalogue.now short.now.outer.now }
+    requires inner { All (FitsTxn catalogue.now) (lent_txns short.now.inner.items) }
+    ensures { IfOk result (λ found. found ≡ true → (work : List Txn) → IsOf work short.now.outer.now (lent_txns short.now.inner.items)
+        → IsShortCounterexample catalogue.now work base.now.value short.now.outer.now (lent_txns short.now.inner.items)) }
+{
+    match committed(alloc, catalogue, base, short)? {
+        Some(effects) => {
+            let none = has_none(alloc, catalogue, base, short, effects.as_slice())?;
+            Ok(none)
+        }
+        None => Ok(false),
+    }
+}
+
+/// Whether no order of the run's transactions, which have these effects, gives their replies and the
+/// rows at the end.
+fn has_none(
+    alloc: Global,
+    catalogue: &Catalogue,
+    base: &Plain,
+    short: &ShortRun,
+    effects: &[Effect],
+) -> Result<bool, NoMemory>
+    requires sorted { IsStrictlySortedBy item_cmp (keys_of base.now.value) }
+    requires outer { FitsTxn catalogue.now short.now.outer.now }
+    requires inner { All (FitsTxn catalogue.now) (lent_txns short.now.inner.items) }
+    requires committed { AreCommitted catalogue.now base.now.value short.now.outer.now (lent_txns short.now.inner.items) effects.now }
+    ensures { IfOk result (λ none. none ≡ true → (e : Effect)
+        → HasOrder catalogue.now (txn_of short.now.outer.now (lent_txns short.now.inner.items)) (λ n. slice_index_or effects.now n e)
+        (after_effects catalogue.now base.now.value effects.now) base.now.value (range_with_len 0 (length effects.now)) → ⊥) }
+{
+    let changes = changes_of(alloc, effects)?;
+    let txns = by_number(alloc, short)?;
+    let left = numbers(alloc, effects.len())?;
+    let run = Run {
+        catalogue,
+        base,
+        txns: txns.as_slice(),
+        effects,
+        changes: changes.as_slice(),
+    };
+    let found = has_order(alloc, &run, left.as_slice(), &[])?;
+    Ok(!found)
+}
+
+/// The transaction at a place, where there is one.
+fn txn_at(txns: &[Txn], place: usize) -> Option<&Txn>
+    ensures { IfSome result (λ txn. Contains txns.now txn.now) }
+{
+    txns.get(place)
+}
+
+/// The transactions of a candidate.
+fn short_run<'a>(
+    alloc: Global,
+    txns: &'a [Txn],
+    candidate: &Candidate,
+) -> Result<Option<ShortRun<'a>>, NoMemory>
+    ensures { IfOk result (λ found. IfSome found (λ s. IsOf txns.now s.outer.now (lent_txns s.inner.items))) }
+{
+    match txn_at(txns, candidate.pivot.place) {
+        Some(outer) => match inner_of(alloc, txns, candidate.path.as_slice())? {
+            Some(inner) => Ok(Some(ShortRun { outer, inner })),
+            None => Ok(None),
+        },
+        None => Ok(None),
+    }
+}
+
+/// The transactions of members; None where one isn't there.
+#[tactic(auto, using(crate::proofs::Kept::within_more))]
+fn inner_of<'a>(
+    alloc: Global,
+    txns: &'a [Txn],
+    path: &[&Member],
+) -> Result<Option<Vec<&'a Txn>>, NoMemory>
+    ensures { IfOk result (λ found. IfSome found (λ inner. (t : Txn) → Contains (lent_txns inner.items) t → Contains txns.now t)) }
+{
+    let mut inner = Vec::with_capacity(alloc, path.len())?;
+    'path: for member in path {
+        match txn_at(txns, member.place) {
+            Some(txn) => inner.push(txn)?,
+            None => return Ok(None),
+        }
+    }
+    Ok(Some(inner))
+}
+
+/// The first of the candidates that is a counterexample.
+fn first_of<'a>(
+    alloc: Global,
+    catalogue: &Catalogue,
+    base: &Plain,
+    txns: &'a [Txn],
+    candidates: &[Candidate],
+) -> Result<Option<ShortRun<'a>>, NoMemory>
+    requires database { IsDatabase catalogue.now base.now.value }
+    requires fit { All (FitsTxn catalogue.now) txns.now }
+    ensures { IfOk result (λ found. IfSome found (λ s. IsShortCounterexample catalogue.now txns.now base.now.value s.outer.now (lent_txns s.inner.items))) }
+{
+    'candidates: for candidate in candidates {
+        match short_run(alloc, txns, candidate)? {
+            Some(short) => {
+                if is_counterexample(alloc, catalogue, base, &short)? {
+                    return Ok(Some(short));
+                }
+            }
+            None => {}
+        }
+    }
+    Ok(None)
+}
+
+/// The first counterexample of so many inner transactions.
+fn first_of_length<'a>(
+    alloc: Global,
+    catalogue: &Catalogue,
+    base: &Plain,
+    txns: &'a [Txn],
+    all: &[Member],
+    length: usize,
+) -> Result<Option<ShortRun<'a>>, NoMemory>
+    requires database { IsDatabase catalogue.now base.now.value }
+    requires fit { All (FitsTxn catalogue.now) txns.now }
+    ensures { IfOk result (λ found. IfSome found (λ s. IsShortCounterexample catalogue.now txns.now base.now.value s.outer.now (lent_txns s.inner.items))) }
+{
+    let mut left = MAX_TRIED;
+    'pivots: for pivot in all {
+        if left > 0 {
+            let candidates = candidates_of(alloc, all, pivot, length, left)?;
+            match first_of(alloc, catalogue, base, txns, candidates.as_slice())? {
+                Some(short) => return Ok(Some(short)),
+                None => left = left.saturating_sub(candidates.len()),
+            }
+        }
+    }
+    Ok(None)
+}
+
+/// A short run that is like no serial one: the first that is found among those where a pivot may miss
+/// the changes of the first inner one and the last one may miss its changes; of those with one inner
+/// transaction 256 are tried, then as many with two and with three.
+///
+/// Takes memory for the database, and for a run that is tried for its rows. Carrying one out costs what
+/// its transactions cost on the database; comparing it with all orders some sixty times as much at most.
+pub fn find_counterexample<'a>(
+    alloc: Global,
+    catalogue: &Catalogue,
+    rows: &[(RelNo, Row)],
+    txns: &'a [Txn],
+    all: &[Member],
+) -> Result<Option<ShortRun<'a>>, NoMemory>
+    requires rows { All (FitsStart catalogue.now) rows.now }
+    requires fit { All (FitsTxn catalogue.now) txns.now }
+    ensures { IfOk result (λ found. IfSome found (λ s.
+        IsShortCounterexample catalogue.now txns.now (database_of catalogue.now rows.now) s.outer.now (lent_txns s.inner.items))) }
+{
+    law_rows_make_database(catalogue, rows);
+    let base = Plain::new(alloc, catalogue, rows)?;
+    'lengths: for length in 1..MAX_INNER + 1 {
+        match first_of_length(alloc, catalogue, &base, txns, all, length)? {
+            Some(short) => return Ok(Some(short)),
+            None => {}
+        }
+    }
+    Ok(None)
+}

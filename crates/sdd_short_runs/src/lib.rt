@@ -1,0 +1,13 @@
+//! Short runs of a workload's transactions under snapshot isolation: one begins, up to three others run
+//! one after the other, and the first one ends.
+//!
+//! The one contract to the layer above: `find_counterexample` carries short runs out, and one that it
+//! gives is like no serial run (`IsShortCounterexample` of `specs/ShortRuns.antt`).
+#![tactic(auto)]
+
+mod candidates;
+mod carrying;
+mod finding;
+mod orders;
+
+pub use finding::{ShortRun, find_counterexample};
