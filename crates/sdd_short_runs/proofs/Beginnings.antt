@@ -1,5 +1,5 @@
 -- Orders, by their first number and the rest.
-use Rattle.sdd_short_runs.proofs.All.{BeginsWith, without, Catalogue, Contains, Contains-cases, Contains-filter, Contains-from_filter, Contains-here, Contains-later, Contains-nil, Database, EachOnce, Effect, Explains, HasOrder, IsOrderOf, List, Reply, Txn, [], after_changes, ap, arith, effect, eq-eqb, eqb-true, false, filter, inl, inr, map, ne_eqb, not, refl, serial, subst, sym, true, ℕ, ◌==◌, ◌∙◌, ◌∷◌, ◌≡◌, ◌≢◌, ◌⊎◌}
+use Rattle.sdd_short_runs.proofs.All.{BeginsWith, without, Catalogue, Contains, Contains-cases, Contains-filter, Contains-from_filter, Contains-here, Contains-later, Contains-nil, Database, Effect, Explains, HasOrder, IsOrderOf, List, Txn, [], ap, arith, eq-eqb, inl, inr, ne_eqb, not, refl, sym, true, ℕ, ◌==◌, ◌∷◌, ◌≡◌}
 
 head_is : {A : Type 0} (x y : A) (xs ys : List A) → x ∷ xs ≡ y ∷ ys → x ≡ y
 head_is x y xs ys e = cc

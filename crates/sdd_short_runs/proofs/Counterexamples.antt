@@ -1,9 +1,9 @@
 -- A short run that all commit in, and that no order explains, is a counterexample.
-use Rattle.sdd_short_runs.proofs.All.{AreCommitted, lent_txns, flat_map, Change, Bool, Catalogue, Contains, Contains-cases, Contains-here, Contains-later, Contains-nil, Database, Effect, Explains, HasOrder, IsCounterexample, IsOf, IsOrderOf, IsReplay, IsShortCounterexample, List, Log, Txn, [], after_changes, after_effects, and_parts, ap, arith, begins, change_one_item, cond, database, effect, effect_of, effects_in_turn, ended, ends, false, fold-append, in_turn, inl, inr, length, list_all, map, not, not-true, range_with_len, refl, short_log, slice_index_or, subst, succeeds, suc, sym, true, txn_of, zero, ℕ, ◌&&◌, ◌++◌, ◌+◌, ◌<◌, ◌∙◌, ◌∷◌, ◌≡◌, ◌≤◌, ◌⊎◌}
+use Rattle.sdd_short_runs.proofs.All.{AreCommitted, lent_txns, flat_map, Change, Bool, Catalogue, Contains, Contains-cases, Contains-here, Contains-later, Contains-nil, Database, Effect, HasOrder, IsOf, IsReplay, IsShortCounterexample, List, Log, Txn, [], after_changes, after_effects, and_parts, ap, arith, begins, change_one_item, database, effect, effect_of, effects_in_turn, ends, false, fold-append, in_turn, inl, inr, length, list_all, not, not-true, range_with_len, refl, short_log, slice_index_or, subst, succeeds, suc, sym, true, txn_of, zero, ℕ, ◌&&◌, ◌++◌, ◌+◌, ◌<◌, ◌∙◌, ◌∷◌, ◌≡◌, ◌≤◌, ◌⊎◌}
 use Rattle.sdd_short_runs.proofs.Searching.{made_all}
 use Rattle.sdd_short_runs.proofs.Turns.{long_lent}
 use Rattle.std.specs.Borrow.{Bor}
-use Rattle.sdd_short_runs.proofs.ShortLogs.{AreNext, AreNumbered, IsBegun, IsNext, all_more, are_ended, begins_alone, database_after, ended_are, is_run}
+use Rattle.sdd_short_runs.proofs.ShortLogs.{AreNext, AreNumbered, IsBegun, all_more, are_ended, begins_alone, database_after, ended_are, is_run}
 
 -- numbers of a list
 

@@ -1,5 +1,5 @@
 -- What transactions and effects of a short run keep.
-use Rattle.sdd_short_runs.proofs.All.{All, Bool, Catalogue, Contains, Contains-get_or, Effect, IsOf, List, Txn, [], and_parts, ap, arith, change_one_item, inl, inr, length, lent_txns, list_all, map-append, not, slice_index_or, subst, succeeds, sym, true, ℕ, ◌&&◌, ◌++◌, ◌+◌, ◌<◌, ◌∙◌, ◌∷◌, ◌≡◌}
+use Rattle.sdd_short_runs.proofs.All.{All, Bool, Catalogue, Contains, Contains-get_or, Effect, IsOf, List, Txn, [], and_parts, ap, change_one_item, inl, inr, lent_txns, list_all, map-append, not, slice_index_or, subst, succeeds, sym, true, ◌&&◌, ◌++◌, ◌∙◌, ◌∷◌, ◌≡◌}
 use Rattle.std.proofs.lemmas.List.Elements.{All-cons, All-contains, All-nil, All-push, Contains-push_cases}
 use Rattle.std.specs.Borrow.{Bor}
 

@@ -1,5 +1,6 @@
 -- The search for an order, number by number.
-use Rattle.sdd_short_runs.proofs.All.{BeginsWith, Bool, Catalogue, Change, Contains, Contains-cases, Contains-nil, Database, Effect, HasOrder, List, Txn, [], after_changes, after_effects, ap, arith, changed_by, cond, effect, eq-eqb, false, filter, flat_map, fold, fold-append, inl, inr, length, ne_eqb, not, refl, subst, sym, true, without, ℕ, ◌++◌, ◌+◌, ◌<◌, ◌==◌, ◌∙◌, ◌∷◌, ◌≡◌, ◌≤◌}
+use Rattle.sdd_short_runs.proofs.All.{BeginsWith, Bool, Catalogue, Change, Contains, Contains-cases, Contains-nil, Database, Effect, HasOrder, List, Txn, [], after_changes, after_effects, ap, arith, changed_by, effect, eq-eqb, false, filter, flat_map, fold-append, inl, inr, length, not, refl, slice_index_or, subst, sym, take, take_more, true, without, ℕ, ◌++◌, ◌+◌, ◌<◌, ◌==◌, ◌∙◌, ◌∷◌, ◌≡◌, ◌≤◌}
+use Rattle.std.proofs.lemmas.List.Elements.{Contains-push_cases}
 
 at_most : (p : ℕ → Bool) (xs : List ℕ) → length (filter p xs) ≤ length xs
 at_most p [] = omega arith
@@ -12,6 +13,15 @@ without_less (x ∷ xs) n h =
     elim (Contains-cases x xs n h) [
       | inl e ↦ (let l = at_most (λ m. not (m == n)) xs in let here = eq-eqb x n (sym e) in grind (arith, l, here))
       | inr later ↦ (let l = without_less xs n later in grind (arith, l))
+    ]
+
+-- where none of the first i numbers has it, and the next one hasn't, none of the first i + 1 has it
+pub none_more : (P : ℕ → Type 0) (xs : List ℕ) (i : ℕ) → i < length xs → ((n : ℕ) → Contains (take i xs) n → P n → ⊥)
+    → (P (slice_index_or xs i 0) → ⊥) → (n : ℕ) → Contains (take (i + 1) xs) n → P n → ⊥
+none_more P xs i l before here n h p =
+    elim (Contains-push_cases (take i xs) (slice_index_or xs i 0) n (subst (λ z. Contains z n) (take_more xs i 0 l) h)) [
+      | inl old ↦ before n old p
+      | inr e ↦ here (subst P (sym e) p)
     ]
 
 -- the changes made so far, and behind them those of an effect

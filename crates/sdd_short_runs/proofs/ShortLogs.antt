@@ -1,5 +1,5 @@
 -- Short runs are runs under snapshot isolation.
-use Rattle.sdd_short_runs.proofs.All.{Catalogue, Contains, Contains-cases, Contains-here, Contains-later, Contains-nil, Database, Effect, FirstWins, InTurn, IsSnapshotRun, List, Log, SeesSnapshots, Txn, [], after_changes, after_effects, ap, arith, begins, begun, change_one_item, contains, database, effect, effects_in_turn, ended, ended_since, ends, eq-eqb, false, in_turn, inl, inr, length, list_all, list_any, ne_eqb, refl, subst, succeeds, suc, sym, true, ℕ, ◌+◌, ◌<◌, ◌==◌, ◌∙◌, ◌∷◌, ◌≡◌, ◌≤◌, ◌⊎◌}
+use Rattle.sdd_short_runs.proofs.All.{Catalogue, Contains, Contains-cases, Contains-here, Contains-later, Contains-nil, Database, Effect, FirstWins, InTurn, IsSnapshotRun, List, Log, SeesSnapshots, Txn, [], after_changes, after_effects, ap, arith, begins, begun, change_one_item, contains, database, effect, ended, ended_since, ends, eq-eqb, false, in_turn, inl, inr, length, list_all, list_any, ne_eqb, refl, subst, succeeds, suc, sym, true, ℕ, ◌+◌, ◌<◌, ◌==◌, ◌∙◌, ◌∷◌, ◌≡◌, ◌≤◌, ◌⊎◌}
 
 same_number : (n : ℕ) → (n == n) ≡ true
 same_number n = eq-eqb n n refl
