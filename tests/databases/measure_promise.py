@@ -19,6 +19,7 @@ from measure_levels import how, judged, row_of, summary  # noqa: E402
 from sdd.bench.make_workload import write_workload  # noqa: E402
 from sdd.command import count, parser, start  # noqa: E402
 from sdd.judge.history_command import read_files  # noqa: E402
+from sdd.model.files import BadInput  # noqa: E402
 from sdd.programs import Program, add_program  # noqa: E402
 from servers import Postgres  # noqa: E402
 
@@ -39,13 +40,16 @@ def run_design(application, design, asked, address, folder, program):
 
 def main():
     asked = parser(__doc__)
-    asked.add_argument("applications", metavar="APPLICATION", nargs="*", choices=[*DESIGNS, []])
+    asked.add_argument("applications", metavar="APPLICATION", nargs="*")
     asked.add_argument("--histories", metavar="N", type=count, default=200)
     asked.add_argument("--size", metavar="N", type=count, default=200)
     asked.add_argument("--level", default="repeatable-read")
     asked.add_argument("--into", metavar="FOLDER")
     add_program(asked)
     asked = asked.parse_args()
+    unknown = set(asked.applications) - set(DESIGNS)
+    if unknown:
+        raise BadInput("%s is no application; they are %s" % (min(unknown), ", ".join(DESIGNS)))
     if Postgres.missing():
         print("skipped: %s" % Postgres.missing())
         return 0
