@@ -2,7 +2,7 @@
 use Rattle.std.proofs.Common.{◌≡◌, ℕ, List, [], ◌∷◌, Some, None, Ok, refl, ap, sym, subst}
 use Rattle.sdd_lang.specs.base.declared.files.ShelfFile.{ShelfFile}
 use Rattle.sdd_lang.specs.All.{Catalogue}
-use Rattle.sdd_run.specs.Runs.{EndsAtLimit}
+use Rattle.sdd_watch.specs.run.Runs.{EndsAtLimit}
 use Rattle.sdd_script.specs.declared.workload.Workload.{Workload}
 use Rattle.sdd_shell.specs.NamedFiles.{BlamesWorkload, catalogue_named, workload_named}
 use Rattle.sdd_shell.specs.Verdict.{Verdict, status_of}

@@ -5,7 +5,7 @@ use Rattle.sdd_lang.specs.base.declared.files.ShelfFile.{ShelfFile}
 use Rattle.sdd_lang.specs.base.declared.limits.TheConstants.{MAX_CATALOGUE_BYTES}
 use Rattle.sdd_lang.specs.All.{Catalogue, MAX_WORKLOAD_BYTES}
 use Rattle.sdd_script.specs.declared.workload.Workload.{Workload}
-use Rattle.sdd_run.specs.Runs.{EndsAtLimit}
+use Rattle.sdd_watch.specs.run.Runs.{EndsAtLimit}
 use Rattle.sdd_watch.specs.Text.{IsInsideOf}
 use Rattle.sdd_shell.specs.Calls.{Call}
 use Rattle.sdd_shell.specs.NamedFiles.{HasFiles, OverCatalogue, OverWorkload, TellsOfRun}

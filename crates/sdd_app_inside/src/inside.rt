@@ -13,10 +13,9 @@ ghost use Rattle.sdd_shell.specs.Verdict.{Answers, AtFault, ComesOfFiles};
 ghost use Rattle.sdd_app_inside.specs.Inside.{AreNotTwo, ComesToInside, ComesToText, inside_call};
 
 use sdd_lang::{Catalogue, Pages, Shelf, Sink};
-use sdd_run::WorldEnd;
 use sdd_script::Workload;
 use sdd_shell::{Status, accepted_catalogue, accepted_workload, end_call};
-use sdd_watch::inside_text;
+use sdd_watch::{WorldEnd, inside_text};
 use std::alloc::Global;
 
 const USAGE: &[u8] = b"usage: sdd1_inside CAT WORK\n";

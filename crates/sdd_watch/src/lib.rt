@@ -29,3 +29,4 @@ mod watched_pipe;
 
 pub use inside::inside_text;
 pub use law::{law_has_inside, law_one_inside};
+pub use sdd_run::WorldEnd;
