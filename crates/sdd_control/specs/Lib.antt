@@ -1,5 +1,6 @@
 pub mod Control
 pub mod Draft
+pub mod Examples
 pub mod Faults
 pub mod Keys
 pub mod Laws

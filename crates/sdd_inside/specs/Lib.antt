@@ -3,6 +3,7 @@ pub mod Examples
 pub mod Json
 pub mod Lines
 pub mod Messages
+pub mod Spellings
 pub mod Standings
 pub mod Turns
 pub mod Words
