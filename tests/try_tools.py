@@ -55,7 +55,7 @@ GOOD = [
     ["benchmark.py", "--only", "bank", "rows", "largest", "--part", "100", "--beside", "PROGRAM"] + P,
     ["measure_gate.py", "--log", "ROOM/log", "--into", "ROOM/gate", "--", "true"],
     ["write_log_examples.py", "--check"], ["proof_map.py", "--into", "ROOM/map", "--picture", "ROOM/map.svg"], ["proof_map.py", "--unused"],
-    ["layers.py", "--into", "ROOM/layers.svg"], ["crate_paths.py", "--most", "46000"], ["try_changes.py", "verify"],
+    ["layers.py", "--into", "ROOM/layers.svg"], ["crate_paths.py", "--most", "56000"], ["try_changes.py", "verify"],
     ["page", CAT, WORK, "--into", "ROOM/page.html"] + P, ["picture", REPORT, CAT, WORK, "--into", "ROOM/run.svg"] + P,
     ["graph-picture", "examples/ycsb/catalogue.toml", "--into", "ROOM/matrix.svg"] + P, ["check_inside.py", "0", "3"],
 ]

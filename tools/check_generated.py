@@ -23,7 +23,7 @@ from sdd.programs import ROOT
 TOOLS = os.path.dirname(os.path.abspath(__file__))
 DOCS = os.path.join(ROOT, "docs")
 WEB = [os.path.join(ROOT, "web", "build.py"), os.path.join(ROOT, "web", "sdd1.html")]
-THEMSELVES = [["make_cases.py"], ["write_log_examples.py"], ["make_broken.py"], ["check_tables.py"],
+THEMSELVES = [["make_cases.py"], ["write_log_examples.py"], ["write_inside_examples.py"], ["make_broken.py"], ["check_tables.py"],
               ["make_examples.py", "--program", "reference"]]
 
 

@@ -1,0 +1,11 @@
+mod FlightsLeft
+mod FlightsRead
+mod FoundIn
+mod LinksRead
+mod PacketsRead
+mod Parts
+mod PipesRead
+mod QueueMoves
+mod QueueNumbers
+mod QueuesRead
+mod WholeRead
