@@ -60,7 +60,8 @@ lent_put [] item row = refl
 lent_put (e ∷ es) item row = grind (arith, lent_put es item row)
 
 -- an item has a row where it has one that is lent
-pub lent_there : (es : List (Item × Bor (List Value))) (item : Item) → is_some (lookup (is_at (item_cmp item)) es) ≡ is_some (lookup (is_at (item_cmp item)) (lent_rows es))
+pub lent_there : (es : List (Item × Bor (List Value))) (item : Item)
+    → is_some (lookup (is_at (item_cmp item)) es) ≡ is_some (lookup (is_at (item_cmp item)) (lent_rows es))
 lent_there [] item = refl
 lent_there (e ∷ es) item =
     elim (is_at (item_cmp item) e.0) as (λ b. is_some (cond b (Some e.1) (lookup (is_at (item_cmp item)) es))

@@ -87,7 +87,8 @@ changes_some rel keys range (a ∷ sets) sure is =
     rw (over_range rel keys range (assigned_column a) false true sure is, changes_some rel keys range sets sure is) refl
 
 -- what the range is of
-pub range_is : (rel : RelNo) (keys : Interval) (range : KeyRange) → range_of rel keys ≡ Some range → record { rel = rel; least = keys.0; greatest = keys.1 } ≡ range
+pub range_is : (rel : RelNo) (keys : Interval) (range : KeyRange) → range_of rel keys ≡ Some range
+    → record { rel = rel; least = keys.0; greatest = keys.1 } ≡ range
 range_is rel keys range is = grind (arith, holds_some)
 
 -- what is found of the keys' ends
