@@ -8,4 +8,4 @@ is_counterexample-requires-clause-inner c =
     (rw c.in-Some.is at c.in_ok-short.ensures) c.requires.fit
 
 pub returns-then-branch : goal.returns-then-branch
-returns-then-branch c = c.in_ok-is_counterexample.ensures c.if-branch.true c.args.txns.now (rw c.in-Some.is at c.in_ok-short.ensures)
+returns-then-branch c = c.in_ok-is_counterexample-in-Some.ensures c.if-branch.true c.args.txns.now (rw c.in-Some.is at c.in_ok-short.ensures)

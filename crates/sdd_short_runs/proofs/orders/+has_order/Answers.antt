@@ -27,7 +27,7 @@ has_order-requires t c =
     let n = slice_index_or c.args.left.now c.numbers.number-index 0 in
     let there = Contains-get_or c.args.left.now c.numbers.number-index 0 c.numbers-test.true in
     let rest : c.as_slice.result.now ≡ without c.args.left.now n = c.as_slice.ensures.value ∙ (rw c.in-Some.is at c.in_ok-begun.ensures.left) in (
-      rw rest (without_less c.args.left.now n there),
+      rw rest (let l = without_less c.args.left.now n there in omega (arith, l)),
       (
         c.requires.tried,
         λ m h. c.requires.there m (Contains-from_filter (λ (x : ℕ). not (x == n)) c.args.left.now m (subst (λ z. Contains z m) rest h)).0,
