@@ -154,7 +154,6 @@ fn short_run<'a>(
 }
 
 /// The transactions of members; None where one isn't there.
-#[tactic(auto, using(crate::proofs::Kept::within_more))]
 fn inner_of<'a>(
     alloc: Global,
     txns: &'a [Txn],

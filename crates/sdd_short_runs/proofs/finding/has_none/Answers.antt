@@ -1,4 +1,4 @@
-use Rattle.sdd_short_runs.proofs.All.{FitsTxn, ap, effect, effects_in_turn, length, lent_txns, range_with_len, ◌∙◌}
+use Rattle.sdd_short_runs.proofs.All.{FitsTxn, ap, effect, effects_in_turn, length, lent_txns, ◌∙◌}
 use Rattle.sdd_short_runs.proofs.Counterexamples.{all_there, as_many, refuted}
 use Rattle.sdd_short_runs.proofs.Kept.{all_of_run, all_succeed}
 use Rattle.sdd_short_runs.proofs.finding.has_none.Goals as goal
@@ -8,7 +8,7 @@ returns c = λ none e order.
     refuted c.args.catalogue.now c.args.short.now.outer.now (lent_txns c.args.short.now.inner.items) (lent_txns c.as_slice.result.now) c.args.effects.now c.args.base.now.value
     c.as_slice-2.result.now c.as_slice-3.result.now e c.in_ok-found.found (ap lent_txns c.as_slice.ensures.value ∙ c.in_ok-txns.ensures)
     (c.as_slice-2.ensures.value ∙ c.in_ok-changes.ensures)
-    (c.as_slice-3.ensures.value ∙ c.in_ok-left.ensures ∙ ap (range_with_len 0) c.len.ensures)
+    (c.as_slice-3.ensures.value ∙ c.in_ok-left.ensures)
     (c.in_ok-found.ensures c.args.short.now.outer.now e) none order
 
 pub has_order-requires-clause-tried : goal.has_order-requires-clause-tried
@@ -32,5 +32,5 @@ has_order-requires-clause-there c =
     let inner = lent_txns c.args.short.now.inner.items in
     let texts = ap lent_txns c.as_slice.ensures.value ∙ c.in_ok-txns.ensures in
     all_there c.as_slice-3.result.now (length c.args.effects.now) (length c.as_slice.result.now)
-    (c.as_slice-3.ensures.value ∙ c.in_ok-left.ensures ∙ ap (range_with_len 0) c.len.ensures)
+    (c.as_slice-3.ensures.value ∙ c.in_ok-left.ensures)
     (as_many cat c.args.base.now.value outer inner c.as_slice.result.now c.args.effects.now texts c.requires.committed.are)
