@@ -6,7 +6,7 @@ ghost use Rattle.sdd_robust.specs.Workloads.{IsPivotOf};
 ghost use Rattle.sdd_robust_answer.specs.Answers.{IsRobustAnswer};
 ghost use Rattle.sdd_script.specs.All.{IsValid};
 
-use crate::lines::{not_robust, unknown};
+use crate::lines::{not_robust, robust, unknown};
 use sdd_lang::{Catalogue, NoMemory};
 use sdd_robust::{Member, Places, find_pivot, members};
 use sdd_script::Workload;
@@ -48,7 +48,7 @@ pub fn robust_work_text(
 {
     let all = members(alloc, catalogue, work)?;
     match find_pivot(alloc, catalogue, work, all.as_slice())? {
-        None => Ok(b"snapshot isolation: robust\n".to_vec(alloc)?),
+        None => robust(alloc),
         Some(pivot) => pivot_text(alloc, catalogue, work, all.as_slice(), pivot),
     }
 }

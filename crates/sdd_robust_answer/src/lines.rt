@@ -1,6 +1,6 @@
-//! Lines that tell a run or a pivot by the names of transactions.
+//! The answers, with a run or a pivot by the names of transactions.
 ghost use Rattle.std.specs.Prelude.{◌≡◌, ◌<◌, ◌++◌, IfOk, OnOk, length};
-ghost use Rattle.sdd_robust_answer.specs.Answers.{name_at, named_line, not_robust_text, run_lines, unknown_text};
+ghost use Rattle.sdd_robust_answer.specs.Answers.{name_at, named_line, not_robust_text, robust_text, run_lines, unknown_text};
 ghost use Rattle.sdd_short_runs.specs.ShortRuns.{lent_txns};
 
 use sdd_lang::{NoMemory, Txn};
@@ -8,6 +8,15 @@ use sdd_robust::Places;
 use sdd_short_runs::ShortRun;
 use sdd_words::put;
 use std::alloc::Global;
+
+/// The answer that the transactions are robust.
+pub(crate) fn robust(alloc: Global) -> Result<Vec<u8>, NoMemory>
+    ensures { IfOk result (λ text. text.items ≡ robust_text) }
+{
+    let mut out = Vec::new(alloc);
+    put(&mut out, b"snapshot isolation: robust\n")?;
+    Ok(out)
+}
 
 /// A line of a word and a transaction's name.
 fn put_line(out: &mut Vec<u8>, word: &[u8], txn: &Txn) -> Result<(), NoMemory>
