@@ -18,7 +18,7 @@ use std::process::ExitCode;
 const NO_WORDS: u8 = 10;
 
 fn main(rt: HostRuntime) -> ExitCode {
-    let mut err = HostSink::new(rt.stderr());
+    let mut err = HostSink::new(rt.stderr(), &rt);
     let words: Vec<String> = match env::args(&rt) {
         Ok(words) => match words.skip(1).collect(rt.alloc()) {
             Ok(words) => words,
@@ -32,7 +32,7 @@ fn main(rt: HostRuntime) -> ExitCode {
         }
     };
     let mut shelf = HostShelf::new(&rt);
-    let mut out = HostSink::new(rt.stdout());
+    let mut out = HostSink::new(rt.stdout(), &rt);
     let status = run_ask(rt.alloc(), words.as_slice(), &mut shelf, &mut out, &mut err);
     exit_code(status)
 }

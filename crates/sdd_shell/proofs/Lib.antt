@@ -4,3 +4,4 @@ pub mod Calls
 pub mod FileReads
 pub mod Sinks
 pub mod Verdicts
+pub mod Offered
