@@ -9,6 +9,7 @@
 //! and a look at each link and pipe, however much stands in them.
 #![tactic(auto)]
 
+mod at_site;
 mod both;
 mod commits;
 mod dones;
@@ -17,6 +18,7 @@ mod inside;
 mod law;
 mod places;
 mod queues;
+mod reach;
 mod rows;
 mod schedule;
 mod states;
