@@ -144,9 +144,10 @@ pub links_over : (g : Input) (old new : Log) (a : Site) (begun links : List Watc
 links_over g old new a begun links i first now e past s =
     let ls : List (Site × Site) = links_from g a in
     let n = ap length e ∙ length-map ls (watched_link old) in
-    let all : take i ls ≡ ls = take_all i ls (omega (arith, past, n)) in
-    (s.links_are ∙ all_changed (watched_link old) (watched_link new) i ls (omega (arith, past, n)),
-    subst (λ xs. AreSeen old new xs first now) all s.seen)
+    let all : take i ls ≡ ls = take_all i ls (omega (arith, past, n)) in (
+      s.links_are ∙ all_changed (watched_link old) (watched_link new) i ls (omega (arith, past, n)),
+      subst (λ xs. AreSeen old new xs first now) all s.seen,
+    )
 
 -- all sites
 
@@ -158,13 +159,14 @@ site_passed g old new w event found r a links first b over is here stood test e 
     let at : r ≡ reach_after g old new new = reach_reported g old new event found r over.event_is over.found_is is in
     let none : may_change_from (reach_after g old new new) a ≡ false =
     (λ i. may_change_from (sym at i) (sym stood i).0) ∙ sym test ∙ e in
-    let s = site_still g old new a over.calm.parts.good over.between here none in
-    (stood ∙ ap (λ ws. (a, ws)) (sym s.kept),
-    record {
-      before_are = sym (append-nil first.moments.before.items) ∙ ap (λ ls. first.moments.before.items ++ map (link_before old) ls) (sym s.unchanged);
-      after_are = sym (append-nil first.moments.after.items) ∙ ap (λ ls. first.moments.after.items ++ map (link_after old new) ls) (sym s.unchanged);
-      arrived_are = sym (append-nil first.arrived.items) ∙ ap (λ xs. first.arrived.items ++ xs) (sym s.none);
-    })
+    let s = site_still g old new a over.calm.parts.good over.between here none in (
+      stood ∙ ap (λ ws. (a, ws)) (sym s.kept),
+      record {
+        before_are = sym (append-nil first.moments.before.items) ∙ ap (λ ls. first.moments.before.items ++ map (link_before old) ls) (sym s.unchanged);
+        after_are = sym (append-nil first.moments.after.items) ∙ ap (λ ls. first.moments.after.items ++ map (link_after old new) ls) (sym s.unchanged);
+        arrived_are = sym (append-nil first.arrived.items) ∙ ap (λ xs. first.arrived.items ++ xs) (sym s.none);
+      },
+    )
 
 pub record SitesSoFar (g : Input) (old new : Log) (i : ℕ) (links : List (Site × List WatchedLink)) (first now : OnLinks) : Type 0 where
   pub links_are : links ≡ changed_to (watched_links g old) (watched_links g new) i (all_sites g)
@@ -205,9 +207,10 @@ pub sites_over : (g : Input) (old new : Log) (begun links : List (Site × List W
     → (links ≡ map (watched_links g new) (all_sites g)) × AreSeen old new (all_links g) first now
 sites_over g old new begun links i first now e past s =
     let n = ap length e ∙ length-map (all_sites g) (watched_links g old) in
-    let all : take i (all_sites g) ≡ all_sites g = take_all i (all_sites g) (omega (arith, past, n)) in
-    (s.links_are ∙ all_changed (watched_links g old) (watched_links g new) i (all_sites g) (omega (arith, past, n)),
-    subst (λ xs. AreSeen old new (flat_map (links_from g) xs) first now) all s.seen)
+    let all : take i (all_sites g) ≡ all_sites g = take_all i (all_sites g) (omega (arith, past, n)) in (
+      s.links_are ∙ all_changed (watched_links g old) (watched_links g new) i (all_sites g) (omega (arith, past, n)),
+      subst (λ xs. AreSeen old new (flat_map (links_from g) xs) first now) all s.seen,
+    )
 
 -- from nothing
 pub seen_all : {A : Type 0} (first found last : List A) → first ≡ [] → last ≡ first ++ found → last ≡ found

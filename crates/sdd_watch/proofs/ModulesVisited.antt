@@ -47,6 +47,7 @@ pub modules_over : (g : Input) (old new : Log) (begun pipes : List (Site × List
     → (pipes ≡ map (watched_pipes g new) (numbers_to g.catalogue.dms)) × ArePipesSeen g old new (all_pipes g) first now
 modules_over g old new begun pipes i first now e past s =
     let n = ap length e ∙ length-map (numbers_to g.catalogue.dms) (watched_pipes g old) in
-    let all : take i (numbers_to g.catalogue.dms) ≡ numbers_to g.catalogue.dms = take_all i (numbers_to g.catalogue.dms) (omega (arith, past, n)) in
-    (s.pipes_are ∙ all_changed (watched_pipes g old) (watched_pipes g new) i (numbers_to g.catalogue.dms) (omega (arith, past, n)),
-    subst (λ ds. ArePipesSeen g old new (flat_map (pipes_at_module g) ds) first now) all s.seen)
+    let all : take i (numbers_to g.catalogue.dms) ≡ numbers_to g.catalogue.dms = take_all i (numbers_to g.catalogue.dms) (omega (arith, past, n)) in (
+      s.pipes_are ∙ all_changed (watched_pipes g old) (watched_pipes g new) i (numbers_to g.catalogue.dms) (omega (arith, past, n)),
+      subst (λ ds. ArePipesSeen g old new (flat_map (pipes_at_module g) ds) first now) all s.seen,
+    )

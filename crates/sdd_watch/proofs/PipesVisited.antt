@@ -117,6 +117,7 @@ pub pipes_over : (g : Input) (old new : Log) (d : ℕ) (begun pipes : List Watch
 pipes_over g old new d begun pipes i first now e past s =
     let ps : List (ℕ × ℕ) = pipes_at_module g d in
     let n = ap length e ∙ length-map ps (watched_pipe g old) in
-    let all : take i ps ≡ ps = take_all i ps (omega (arith, past, n)) in
-    (s.pipes_are ∙ all_changed (watched_pipe g old) (watched_pipe g new) i ps (omega (arith, past, n)),
-    subst (λ xs. ArePipesSeen g old new xs first now) all s.seen)
+    let all : take i ps ≡ ps = take_all i ps (omega (arith, past, n)) in (
+      s.pipes_are ∙ all_changed (watched_pipe g old) (watched_pipe g new) i ps (omega (arith, past, n)),
+      subst (λ xs. ArePipesSeen g old new xs first now) all s.seen,
+    )

@@ -157,3 +157,9 @@ pub left_out : (h : Happened) (moved : Bool) (before after : List QueueMoment) �
     → changes (queue_between h) (cond moved before []) (cond moved after []) ≡ changes (queue_between h) before after
 left_out h true before after same = refl
 left_out h false before after same = sym (ap (changes (queue_between h) before) (same refl) ∙ queues_quiet h before)
+
+-- and those that are kept are those after the event
+pub queues_kept : (moved : Bool) (before after found left : List QueueMoment) → found ≡ cond moved after [] → left ≡ cond moved [] before
+    → (moved ≡ false → after ≡ before) → cond moved found left ≡ after
+queues_kept true before after found left f l same = f
+queues_kept false before after found left f l same = l ∙ sym (same refl)

@@ -291,7 +291,8 @@ fn look_at_link(
         return Ok(());
     }
     let seen = link.look(alloc, world, event, found)?;
-    on_links.add(seen)
+    on_links.add(seen)?;
+    Ok(())
 }
 
 /// Looks at the links from a site.
@@ -354,7 +355,8 @@ fn look_at_site(
         reach,
         &mut links.parts,
         on_links,
-    )
+    )?;
+    Ok(())
 }
 
 /// Looks at all links once an event is carried out. The moments are of those of which something is

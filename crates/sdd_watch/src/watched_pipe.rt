@@ -317,7 +317,8 @@ fn look_at_module(
     if !is_reached(arrived, pipes.at) {
         return Ok(());
     }
-    look_at_pipes_of(alloc, world, arrived, &mut pipes.parts, parts)
+    look_at_pipes_of(alloc, world, arrived, &mut pipes.parts, parts)?;
+    Ok(())
 }
 
 /// Looks at all pipes once an event is carried out, where these messages were handed over. The

@@ -1,5 +1,6 @@
 use Rattle.sdd_watch.proofs.All.{U, takes_part}
 use Rattle.sdd_watch.proofs.SoFar.{filtered_all, filtered_to}
+use Rattle.sdd_watch.proofs.TakingPart.{none_takes}
 use Rattle.sdd_watch.proofs.taking_part.busy.Goals as goal
 
 pub loop-at-preserved : goal.loop-at-preserved
