@@ -131,7 +131,7 @@ same_queues g old new b e =
 first_found : (x : TxnNo) (xs : List TxnNo) → gone (x ∷ xs) (x ∷ xs) ≡ 0
 first_found x xs =
     let at : position (is_first (x ∷ xs)) (x ∷ xs) ≡ Some 0 =
-    sym (position_from-zero (is_first (x ∷ xs)) (x ∷ xs))
+    position_from-zero (is_first (x ∷ xs)) (x ∷ xs)
     ∙ ap (λ b. cond b (Some 0) (position_from (is_first (x ∷ xs)) (0 + 1) xs)) (eq-eqb x.0 x.0 refl) in
     ap (λ o. unwrap_or o (length (x ∷ xs))) at
 

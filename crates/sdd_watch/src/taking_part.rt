@@ -1,5 +1,5 @@
 //! Which sites take part in an event, and how they stand.
-ghost use Rattle.std.specs.Prelude.{◌≡◌, ◌++◌, ◌∷◌, ◌&&◌, [], All, filter, map, IfOk, OnOk};
+ghost use Rattle.std.specs.Prelude.{◌≡◌, ◌++◌, ◌∷◌, ◌&&◌, [], All, false, filter, map, true, IfOk, OnOk};
 ghost use Rattle.std.specs.List.{list_any};
 ghost use Rattle.sdd_obligations.specs.All.{Input, IsSiteOf, Log, Redeclare, Site as Place, nth_era, redeclares, same_site, txn_at};
 ghost use Rattle.sdd_obligations.specs.logs.Due.{home_of as class_site};

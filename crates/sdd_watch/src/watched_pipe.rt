@@ -1,7 +1,8 @@
 //! Pipes of data modules, as they stood when an event was over.
-ghost use Rattle.std.specs.Prelude.{◌≡◌, ◌≤◌, ◌++◌, ◌+◌, ◌-◌, ◌∷◌, [], ℕ, cond, filter_map, find, length, map, not, IfOk, OnOk};
+ghost use Rattle.std.specs.Prelude.{◌≡◌, ◌==◌, ◌&&◌, ◌≤◌, ◌++◌, ◌+◌, ◌-◌, ◌∷◌, [], ℕ, cond, filter_map, find, length, map, not, IfOk, OnOk};
 ghost use Rattle.std.specs.Option.{option_copied};
 ghost use Rattle.sdd_obligations.specs.All.{D, Input, IsSiteOf, Log, dm_no, numbers_to, time_at};
+ghost use Rattle.sdd_obligations.specs.base.Words.{is_empty};
 ghost use Rattle.sdd_obligations.specs.dm.Due.{or_zero};
 ghost use Rattle.sdd_obligations.specs.pipe.Digest as digest;
 ghost use Rattle.sdd_obligations.specs.pipe.Pipes.{pipe_at};
@@ -128,6 +129,13 @@ fn count_processed(before: usize, came: &[u32], left: usize) -> Result<u64, NoMe
     Ok(all.saturating_sub(left) as u64)
 }
 
+/// Whether nothing came to a pipe and as many messages are unprocessed as before.
+fn is_quiet(before: usize, came: &[u32], left: usize) -> bool
+    ensures { result ≡ (is_empty came.now && before == left) }
+{
+    came.is_empty() && before == left
+}
+
 impl WatchedPipe {
     /// Looks at the pipe once an event is carried out, where these messages were handed over.
     fn look(
@@ -159,7 +167,7 @@ impl WatchedPipe {
         let module = sites.data_module(self.dm);
         let unprocessed = module.count_unprocessed(self.class);
         let came = numbers_on(alloc, arrived, self.source, Site::D(self.dm), self.class)?;
-        if unprocessed == self.unprocessed && came.is_empty() {
+        if is_quiet(self.unprocessed, came.as_slice(), unprocessed) {
             return Ok(());
         }
         let passed = passed_to(module, self.class);

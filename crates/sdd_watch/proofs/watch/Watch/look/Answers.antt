@@ -2,6 +2,7 @@ use Rattle.sdd_watch.proofs.All.{Input, IsOver, Knows, Log, Moment, Watch, Watch
 use Rattle.sdd_watch.proofs.CutDifference.{change_reported}
 use Rattle.sdd_watch.proofs.KeptBeside.{beside, known, written_back}
 use Rattle.sdd_watch.proofs.QueuesKept.{queues_kept, same_queues}
+use Rattle.sdd_watch.proofs.watch.Watch.look.Goals.{In_ok-delta}
 use Rattle.sdd_watch.proofs.watch.Watch.look.Goals as goal
 
 pub look_at_links-requires : goal.look_at_links-requires
@@ -29,7 +30,7 @@ describe_event-requires c =
     )
 
 -- whether a transaction entered a queue or left one
-moves : (c : goal.In_ok-delta) (g : Input) (old new : Log) → IsOver g old new c.args.world.now c.args.turn.event c.args.found → Watches g old c.args.self.now
+moves : (c : In_ok-delta) (g : Input) (old new : Log) → IsOver g old new c.args.world.now c.args.turn.event c.args.found → Watches g old c.args.self.now
     → c.have_moved-moved.result ≡ have_moved old new
 moves c g old new over were =
     c.have_moved-moved.ensures
