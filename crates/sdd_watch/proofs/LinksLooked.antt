@@ -13,7 +13,7 @@ reach_reported : (g : Input) (old new : Log) (event : Event) (found : Found) (r 
 reach_reported g old new event found r e f is =
     is ∙ ap (reach_of g new event) f ∙ ap (λ x. reach_of g new x (found_by x old new)) e
 
-as_many : (n m : ℕ) → not (n == m) ≡ false → n ≡ m
+pub as_many : (n m : ℕ) → not (n == m) ≡ false → n ≡ m
 as_many n m e = eqb-true n m (elim (n == m) as (λ b. not b ≡ false → b ≡ true) [
   | true ↦ λ p. refl
   | false ↦ λ p. sym p

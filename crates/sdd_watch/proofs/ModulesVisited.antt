@@ -1,6 +1,6 @@
 -- A look at the pipes of each data module, one after the other.
 use Rattle.sdd_watch.proofs.All.{ArePipesSeen, Both, D, Input, IsSiteOf, List, Log, PipeMoment, Site, Some, WatchedPipe, all_pipes, ap, arith, dm_no, flat_map, get_or, in_range, le_true, length, length-map, map, numbers_to, pipes_at_module, refl, slice_get, slice_set, subst, sym, take, take_all, watched_pipes, ℕ, ◌+◌, ◌<◌, ◌∙◌, ◌≡◌, ◌≤◌}
-use Rattle.sdd_watch.proofs.PipesVisited.{pipes_join, pipes_none}
+use Rattle.sdd_watch.proofs.PipesVisited.{AsTheyStood, first_of_drop, of_place, pipes_join, pipes_none}
 use Rattle.sdd_watch.proofs.Visited.{PlaceAt, all_changed, changed_to, group_more, place_at}
 
 module_here : (g : Input) (d : ℕ) → 1 ≤ d → d ≤ g.catalogue.dms → IsSiteOf g (D (dm_no d))
@@ -51,3 +51,14 @@ modules_over g old new begun pipes i first now e past s =
       s.pipes_are ∙ all_changed (watched_pipes g old) (watched_pipes g new) i (numbers_to g.catalogue.dms) (omega (arith, past, n)),
       subst (λ ds. ArePipesSeen g old new (flat_map (pipes_at_module g) ds) first now) all s.seen,
     )
+
+-- the data module at hand, whose pipes stand as they stood
+
+pub module_as_it_stood : (g : Input) (old : Log) (begun pipes : List (Site × List WatchedPipe)) (i : ℕ) (x : Site × List WatchedPipe)
+    → begun ≡ map (watched_pipes g old) (numbers_to g.catalogue.dms) → i < length begun → i < length pipes → AsTheyStood i begun pipes → x ≡ get_or pipes i x
+    → (d : ℕ) × IsSiteOf g (D (dm_no d)) × (x ≡ watched_pipes g old d)
+module_as_it_stood g old begun pipes i x e few here same is =
+    let stood : x ≡ get_or begun i x = is ∙ first_of_drop pipes begun i x here few same in
+    let n = ap length e ∙ length-map (numbers_to g.catalogue.dms) (watched_pipes g old) in
+    let p = of_place (watched_pipes g old) (numbers_to g.catalogue.dms) i x (omega (arith, few, n)) (stood ∙ ap (λ ws. get_or ws i x) e) in
+    (p.0, module_of g i p.0 p.1, p.2)

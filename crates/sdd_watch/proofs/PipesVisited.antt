@@ -15,13 +15,13 @@ pipe_there g d i p here e =
     subst (IsPipeOf g) c.2 (record { site = here; class = omega (arith, n.1) })
 
 -- of a list of images the one at a place is that of what stands there
-of_place : {A B : Type 0} (f : A → B) (xs : List A) (i : ℕ) (y : B) → i < length xs → y ≡ get_or (map f xs) i y
+pub of_place : {A B : Type 0} (f : A → B) (xs : List A) (i : ℕ) (y : B) → i < length xs → y ≡ get_or (map f xs) i y
     → (x : A) × (slice_get xs i ≡ Some x) × (y ≡ f x)
 of_place f [] i y few e = absurd (omega (arith, few))
 of_place f (x ∷ xs) zero y few e = (x, refl, e)
 of_place f (x ∷ xs) (suc i) y few e = of_place f xs i y (omega (arith, few)) e
 
-first_of_drop : {A : Type 0} (xs ys : List A) (i : ℕ) (d : A) → i < length xs → i < length ys → drop i xs ≡ drop i ys → get_or xs i d ≡ get_or ys i d
+pub first_of_drop : {A : Type 0} (xs ys : List A) (i : ℕ) (d : A) → i < length xs → i < length ys → drop i xs ≡ drop i ys → get_or xs i d ≡ get_or ys i d
 first_of_drop [] ys i d few some e = absurd (omega (arith, few))
 first_of_drop (x ∷ xs) [] i d few some e = absurd (omega (arith, some))
 first_of_drop (x ∷ xs) (y ∷ ys) zero d few some e = cc
@@ -62,8 +62,8 @@ pipe_at_hand g old new d begun pipes i x first now e few s is =
 
 -- the pipe at hand, which stands as it stood, is of a data module of the network
 
-abbrev pub AsTheyStood : ℕ → List WatchedPipe → List WatchedPipe → Type 0
-AsTheyStood i begun pipes = drop i pipes ≡ drop i begun
+abbrev pub AsTheyStood : {A : Type 0} → ℕ → List A → List A → Type 0
+AsTheyStood i begun now = drop i now ≡ drop i begun
 
 pub at_module : (g : Input) (old : Log) (d : ℕ) (begun pipes : List WatchedPipe) (i : ℕ) (x : WatchedPipe) → IsSiteOf g (D (dm_no d))
     → begun ≡ map (watched_pipe g old) (pipes_at_module g d)
@@ -74,10 +74,9 @@ at_module g old d begun pipes i x at e few here same is =
     let p = of_place (watched_pipe g old) (pipes_at_module g d) i x (omega (arith, few, n)) (stood ∙ ap (λ ws. get_or ws i x) e) in
     subst (λ (w : WatchedPipe). IsSiteOf g (D w.dm)) (sym p.2) (pipe_there g d i p.0 at p.1).site
 
-pub rest_is_kept : (begun pipes : List WatchedPipe) (i : ℕ) (next : WatchedPipe) → AsTheyStood i begun pipes
-    → AsTheyStood (i + 1) begun (slice_set pipes i next)
-rest_is_kept begun pipes i next e =
-    drop-set-lt (i + 1) pipes i next (omega arith) ∙ sym (drop-drop 1 i pipes) ∙ ap (drop 1) e ∙ drop-drop 1 i begun
+pub rest_is_kept : {A : Type 0} (begun now : List A) (i : ℕ) (next : A) → AsTheyStood i begun now → AsTheyStood (i + 1) begun (slice_set now i next)
+rest_is_kept begun now i next e =
+    drop-set-lt (i + 1) now i next (omega arith) ∙ sym (drop-drop 1 i now) ∙ ap (drop 1) e ∙ drop-drop 1 i begun
 
 -- what stands at a place, whatever is taken where nothing does
 pub at_hand : {A : Type 0} (begun items : List A) (i : ℕ) (d : A) → i < length begun → length items ≡ length begun

@@ -18,7 +18,7 @@ arrived_at old new at (l ∷ ls) =
       | false ↦ ap (λ r. same_site l.1 at || r) i
     ]
 
-reached_is : (g : Input) (old new : Log) (at : Site) (known : List Arrived) (b : Bool) → b ≡ list_any (λ (one : Arrived). same_site one.to at) known
+pub reached_is : (g : Input) (old new : Log) (at : Site) (known : List Arrived) (b : Bool) → b ≡ list_any (λ (one : Arrived). same_site one.to at) known
     → known ≡ arrived g old new → b ≡ is_reached g old new at
 reached_is g old new at known b is same = is ∙ ap (list_any (is_to at)) same ∙ arrived_at old new at (all_links g)
 

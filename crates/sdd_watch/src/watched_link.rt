@@ -306,7 +306,8 @@ fn look_at_links_from(
     on_links: &mut OnLinks,
 ) -> Result<(), NoMemory>
     requires { (g : Input) × (old : Log) × (new : Log) × (a : Place)
-        × IsOver g old new world.now event.now found.now × IsSiteOf g a
+        × IsOver g old new world.now event.now found.now
+        × (reach ≡ reach_of g new event.now found.now) × IsSiteOf g a
         × (links.old ≡ map (watched_link old) (links_from g a)) }
     ensures kept { OnOk result ((g : Input) (old new : Log) (a : Place)
         → IsOver g old new world.now event.now found.now → reach ≡ reach_of g new event.now found.now
@@ -334,7 +335,8 @@ fn look_at_site(
     on_links: &mut OnLinks,
 ) -> Result<(), NoMemory>
     requires { (g : Input) × (old : Log) × (new : Log) × (a : Place)
-        × IsOver g old new world.now event.now found.now × IsSiteOf g a
+        × IsOver g old new world.now event.now found.now
+        × (reach ≡ reach_of g new event.now found.now) × IsSiteOf g a
         × (links.old ≡ watched_links g old a) }
     ensures kept { OnOk result ((g : Input) (old new : Log) (a : Place)
         → IsOver g old new world.now event.now found.now → reach ≡ reach_of g new event.now found.now

@@ -1,6 +1,7 @@
 -- What is read of the pipe in the world is what the log gives.
 use Rattle.sdd_watch.proofs.All.{Calm, D, Input, IsBetween, IsSiteOf, List, Log, [], ap, append-nil, arrived, cond, dm_no, is_changed_pipe, is_empty, is_still_pipe, length, local_of, not, pipe_after, pipe_before, refl, setting_of, sym, watched_pipe, ℕ, ◌&&◌, ◌++◌, ◌+◌, ◌-◌, ◌==◌, ◌∙◌, ◌∷◌, ◌≡◌, ◌≤◌}
 use Rattle.sdd_watch.proofs.PipesLooked.{IsRead, left_over, pipe_kept, pipe_quiet, read_pipe, seen_after, seen_before}
+use Rattle.sdd_watch.proofs.watched_pipe.WatchedPipe.look.Goals.{Then-is_quiet}
 use Rattle.sdd_watch.proofs.watched_pipe.WatchedPipe.look.Goals as goal
 
 pub data_module-module-requires : goal.data_module-module-requires
@@ -28,7 +29,7 @@ after_is : (c : goal.In_ok-add_changed) (g : Input) (old new : Log) → Calm c.a
 after_is c g old new calm between all d n site few is =
     let left = c.count_unprocessed-unprocessed.result in
     let counted : c.in_ok-processed.processed ≡ (c.args.self.now.unprocessed + length c.in_ok-came.came.items) - left =
-    c.in_ok-processed.ensures ∙ ap (λ (ns : List ℕ). (c.args.self.now.unprocessed + length ns) - left) c.as_slice.ensures.value in
+    c.in_ok-processed.ensures ∙ ap (λ (ns : List ℕ). (c.args.self.now.unprocessed + length ns) - left) c.as_slice-2.ensures.value in
     seen_after g old new d n c.args.self.now c.in_ok-came.came.items left c.in_ok-processed.processed c.passed_to-passed.result c.moment-after.result
     c.args.arrived.now calm.parts.good between site few is all (read c g old new d n calm site few is) c.in_ok-came.ensures counted c.moment-after.ensures
 
@@ -48,7 +49,7 @@ returns-clause-after c = λ g old new calm between all d n site few is.
 
 -- a pipe that is passed over
 
-quiet : (c : goal.Then-is_quiet) (g : Input) (old new : Log) → Calm c.args.world.now g new → IsBetween g old new → c.args.arrived.now ≡ arrived g old new
+quiet : (c : Then-is_quiet) (g : Input) (old new : Log) → Calm c.args.world.now g new → IsBetween g old new → c.args.arrived.now ≡ arrived g old new
     → (d n : ℕ) → IsSiteOf g (D (dm_no d)) → n ≤ length g.catalogue.classes → c.args.self.now ≡ watched_pipe g old (d, n)
     → (c.args.self.now ≡ watched_pipe g new (d, n)) × (is_changed_pipe g old new (d, n) ≡ false)
 quiet c g old new calm between all d n site few is =
