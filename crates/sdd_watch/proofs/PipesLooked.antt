@@ -122,8 +122,8 @@ pub pipe_quiet : (g : Input) (old new : Log) (d c : ℕ) (w : WatchedPipe) (numb
     → here ≡ arrived g old new → unprocessed ≡ length (pipe c (local_of g (D (dm_no d)) new)).unprocessed
     → numbers ≡ numbers_for w.source (D w.dm) w.class.0 here → quiet ≡ (is_empty numbers && w.unprocessed == unprocessed) → quiet ≡ true
     → (w ≡ watched_pipe g new (d, c)) × (is_changed_pipe g old new (d, c) ≡ false)
-pipe_quiet g old new d c w numbers unprocessed quiet here good b site few is all left came_are test yes =
-    let both = and_parts (is_empty numbers) (w.unprocessed == unprocessed) (sym test ∙ yes) in
+pipe_quiet g old new d c w numbers unprocessed quiet here good b site few is all left came_are test is_quiet =
+    let both = and_parts (is_empty numbers) (w.unprocessed == unprocessed) (sym test ∙ is_quiet) in
     let empty : numbers ≡ [] = nothing_in numbers both.0 in
     let same : w.unprocessed ≡ unprocessed = eqb-true w.unprocessed unprocessed both.1 in
     let passed : Ts = time_at (passed_to (pipe c (local_of g (D (dm_no d)) new))) in

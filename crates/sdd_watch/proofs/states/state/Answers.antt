@@ -16,5 +16,5 @@ pub returns-in_ok-u_state-in-U : goal.returns-in_ok-u_state-in-U
 returns-in_ok-u_state-in-U c = λ g log here calm dones.
     let represents = (c.u_module.ensures (setting_of g U) (local_of g U log) (c.sites-sites.ensures g log calm U refl)).represents_log in
     ap states.U (c.in_ok-u_state-in-U.ensures (setting_of g U) (local_of g U log) represents
-    (c.as_slice.ensures.value ∙ c.in_ok-missing.ensures g log calm dones))
+    (c.as_slice.ensures.value ∙ c.in_ok-missing-in-U.ensures g log calm dones))
     ∙ ap (state_of g log) (sym c.in-U.is)

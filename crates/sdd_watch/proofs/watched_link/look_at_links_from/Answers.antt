@@ -11,10 +11,8 @@ look_at_link-requires c =
       r.1,
       r.2,
       r.4,
-      at_link r.0 r.1 r.2 r.3 c.args.links.now c.loop-link.links c.loop-link.link-index
-          (get_or c.loop-link.links c.loop-link.link-index c.link-item.result) c.args.on_links.now c.loop-link.on_links r.6 r.7
-          c.loop-link-test.true (c.loop-link.invariant r.0 r.1 r.2 r.3 r.4 r.5 r.6 r.7)
-          (at_hand c.args.links.now c.loop-link.links c.loop-link.link-index c.link-item.result c.loop-link-test.true c.loop-link.auto.links),
+      at_link r.0 r.1 r.2 r.3 c.args.links.now c.loop-link.links c.loop-link.link-index c.link-item.result c.args.on_links.now c.loop-link.on_links r.6 r.7
+          c.loop-link-test.true (c.loop-link.invariant r.0 r.1 r.2 r.3 r.4 r.5 r.6 r.7) c.link-item.is,
     )
 
 pub loop-link-preserved : goal.loop-link-preserved

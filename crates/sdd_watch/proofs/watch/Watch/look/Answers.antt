@@ -2,7 +2,6 @@ use Rattle.sdd_watch.proofs.All.{Input, IsOver, Knows, Log, Moment, Watch, Watch
 use Rattle.sdd_watch.proofs.CutDifference.{change_reported}
 use Rattle.sdd_watch.proofs.KeptBeside.{beside, known, written_back}
 use Rattle.sdd_watch.proofs.QueuesKept.{queues_kept, same_queues}
-use Rattle.sdd_watch.proofs.watch.Watch.look.Goals.{In_ok-delta}
 use Rattle.sdd_watch.proofs.watch.Watch.look.Goals as goal
 
 pub look_at_links-requires : goal.look_at_links-requires
@@ -30,11 +29,11 @@ describe_event-requires c =
     )
 
 -- whether a transaction entered a queue or left one
-moves : (c : In_ok-delta) (g : Input) (old new : Log) → IsOver g old new c.args.world.now c.args.turn.event c.args.found → Watches g old c.args.self.now
+moves : (c : goal.After-drop-arrived-2) (g : Input) (old new : Log) → IsOver g old new c.args.world.now c.args.turn.event c.args.found → Watches g old c.args.self.now
     → c.have_moved-moved.result ≡ have_moved old new
 moves c g old new over were =
     c.have_moved-moved.ensures
-    ∙ (λ i. list_any is_of_queue (drop (were.records i) ((c.as_slice.ensures.value ∙ c.history.ensures g new over.calm) i)))
+    ∙ (λ i. list_any is_of_queue (drop (were.records i) ((c.as_slice.ensures ∙ c.history.ensures g new over.calm) i)))
 
 pub returns-clause-delta : goal.returns-clause-delta
 returns-clause-delta c = λ g old new over at were.

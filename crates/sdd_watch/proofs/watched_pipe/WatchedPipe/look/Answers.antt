@@ -1,7 +1,6 @@
 -- What is read of the pipe in the world is what the log gives.
-use Rattle.sdd_watch.proofs.All.{Calm, D, Input, IsBetween, IsSiteOf, List, Log, [], ap, append-nil, arrived, cond, dm_no, is_changed_pipe, is_empty, is_still_pipe, length, local_of, not, pipe_after, pipe_before, refl, setting_of, sym, watched_pipe, ℕ, ◌&&◌, ◌++◌, ◌+◌, ◌-◌, ◌==◌, ◌∙◌, ◌∷◌, ◌≡◌, ◌≤◌}
+use Rattle.sdd_watch.proofs.All.{Calm, D, Input, IsBetween, IsSiteOf, List, Log, [], ap, append-nil, arrived, cond, dm_no, false, is_changed_pipe, is_empty, is_still_pipe, length, local_of, not, pipe_after, pipe_before, refl, setting_of, sym, watched_pipe, ℕ, ◌&&◌, ◌++◌, ◌+◌, ◌-◌, ◌==◌, ◌∙◌, ◌∷◌, ◌≡◌, ◌≤◌}
 use Rattle.sdd_watch.proofs.PipesLooked.{IsRead, left_over, pipe_kept, pipe_quiet, read_pipe, seen_after, seen_before}
-use Rattle.sdd_watch.proofs.watched_pipe.WatchedPipe.look.Goals.{Then-is_quiet}
 use Rattle.sdd_watch.proofs.watched_pipe.WatchedPipe.look.Goals as goal
 
 pub data_module-module-requires : goal.data_module-module-requires
@@ -49,7 +48,7 @@ returns-clause-after c = λ g old new calm between all d n site few is.
 
 -- a pipe that is passed over
 
-quiet : (c : Then-is_quiet) (g : Input) (old new : Log) → Calm c.args.world.now g new → IsBetween g old new → c.args.arrived.now ≡ arrived g old new
+quiet : (c : goal.After-drop-came) (g : Input) (old new : Log) → Calm c.args.world.now g new → IsBetween g old new → c.args.arrived.now ≡ arrived g old new
     → (d n : ℕ) → IsSiteOf g (D (dm_no d)) → n ≤ length g.catalogue.classes → c.args.self.now ≡ watched_pipe g old (d, n)
     → (c.args.self.now ≡ watched_pipe g new (d, n)) × (is_changed_pipe g old new (d, n) ≡ false)
 quiet c g old new calm between all d n site few is =
