@@ -1,12 +1,13 @@
 -- The names of std, of the crates below and of this crate's definitions that its proofs cite. Declares nothing.
 pub use Rattle.sdd_inside.proofs.Changes.{packets_end as mapped_end}
-pub use Rattle.sdd_inside.specs.Differences.{changes, difference, handed_between, in_flight, on_link, pipe_between, put_between, queue_between, takes_from, takes_one}
+pub use Rattle.sdd_inside.specs.Differences.{changes, difference, handed_between, in_flight, is_of_link, on_link, pipe_between, put_between, queue_between, takes_from, takes_one}
 pub use Rattle.sdd_inside.specs.Lines.{beginning, line}
 pub use Rattle.sdd_inside.specs.declared.delta.Delta.{Delta}
 pub use Rattle.sdd_inside.specs.declared.delta.Found.{Found}
 pub use Rattle.sdd_inside.specs.declared.delta.Handed.{Handed}
 pub use Rattle.sdd_inside.specs.declared.delta.PipeDelta.{PipeDelta}
 pub use Rattle.sdd_inside.specs.declared.delta.Put.{Put}
+pub use Rattle.sdd_inside.specs.declared.delta.QueueDelta.{QueueDelta}
 pub use Rattle.sdd_inside.specs.declared.delta.RowDelta.{RowDelta}
 pub use Rattle.sdd_inside.specs.declared.delta.Taken.{Taken}
 pub use Rattle.sdd_inside.specs.declared.moment.Happened.{Happened}
@@ -19,8 +20,8 @@ pub use Rattle.sdd_inside.specs.declared.standing.Head.{Head}
 pub use Rattle.sdd_inside.specs.declared.standing.Head.TheVariants.{Waits}
 pub use Rattle.sdd_inside.specs.declared.standing.Question.{Question}
 pub use Rattle.sdd_inside.specs.declared.standing.SiteState.{SiteState}
-pub use Rattle.sdd_obligations.proofs.SitesAndLinks.{link_of_links}
-pub use Rattle.sdd_obligations.proofs.needs.OfNext.{IsThere}
+pub use Rattle.sdd_obligations.proofs.SitesAndLinks.{link_of_links, site_there}
+pub use Rattle.sdd_obligations.proofs.needs.OfNext.{IsThere, of_next}
 pub use Rattle.sdd_obligations.proofs.ReadSent.{site_sym as same_back}
 pub use Rattle.sdd_obligations.proofs.Sources.{source_is_home}
 pub use Rattle.sdd_obligations.proofs.Submitting.{le_true}
@@ -31,7 +32,7 @@ pub use Rattle.sdd_obligations.proofs.graph.Lists.{each_more, range_more}
 pub use Rattle.sdd_obligations.proofs.invariants.Bools.{not_both}
 pub use Rattle.sdd_obligations.proofs.invariants.InOrder.{allowed_hand, handed_of_sent, in_order}
 pub use Rattle.sdd_obligations.proofs.invariants.InPipe.{pipe_is}
-pub use Rattle.sdd_obligations.proofs.invariants.Lists.{in_either, in_range}
+pub use Rattle.sdd_obligations.proofs.invariants.Lists.{in_either, in_range, in_right}
 pub use Rattle.sdd_obligations.proofs.invariants.Processed.{and_false}
 pub use Rattle.sdd_obligations.proofs.invariants.Sent.{sent_is}
 pub use Rattle.sdd_obligations.proofs.invariants.Sites.{site_is, site_self}
@@ -39,19 +40,25 @@ pub use Rattle.sdd_obligations.proofs.invariants.logs.attempt.Noting.{any_result
 pub use Rattle.sdd_obligations.proofs.invariants.logs.dm.ByClass.{filter_same}
 pub use Rattle.sdd_obligations.proofs.invariants.logs.dm.Shown.{head_shown, met_is, waits_shown}
 pub use Rattle.sdd_obligations.proofs.logs.Completing.{complete_parts, one_more, redeclare_next, settled}
+pub use Rattle.sdd_obligations.proofs.logs.Delivering.{ack_same}
 pub use Rattle.sdd_obligations.proofs.logs.Grows.{grows, lawful_grows, mark_is_next, with_end}
+pub use Rattle.sdd_obligations.proofs.logs.Handing.{delivered_puts}
+pub use Rattle.sdd_obligations.proofs.logs.Links.{delivered_deliver, delivered_lose, delivered_repeat, delivered_resend}
+pub use Rattle.sdd_obligations.proofs.logs.Marking.{no_redeclare, none_by_mark, ticked_none}
 pub use Rattle.sdd_obligations.proofs.logs.NewMarks.{lawful_permitted}
 pub use Rattle.sdd_obligations.proofs.logs.One.{IsBefore, limit_or_complete, one_chain, one_log}
 pub use Rattle.sdd_obligations.proofs.logs.Rounding.{no_events_quiet}
+pub use Rattle.sdd_obligations.proofs.logs.Steps.{none_any_base, none_does as does_none}
 pub use Rattle.sdd_obligations.proofs.net.Directions.{link_back}
-pub use Rattle.sdd_obligations.proofs.net.Lists.{All-at}
+pub use Rattle.sdd_obligations.proofs.net.Lists.{All-at, get-append as in_left}
 pub use Rattle.sdd_obligations.proofs.net.Queues.{no_items}
 pub use Rattle.sdd_obligations.proofs.net.SiteLists.{all_links_more, links_no, links_yes, sites_more}
 pub use Rattle.sdd_obligations.proofs.net.Sound.{sound}
 pub use Rattle.sdd_obligations.proofs.serial_orders.Reading.{is_eq_nat, same_pair}
 pub use Rattle.sdd_obligations.proofs.tm.Lists.{of_map as in_mapped}
-pub use Rattle.sdd_obligations.specs.All.{Ack, Apply, Attempt, Call, Catalogue, Change, Class, ClassNo, ClassState, ClassView, Commit, Cond, D, Deliver, DmNo, Does, Done, Down, Entry, Event, FitsStart, FragNo, Fragment, Hand, History, Input, IsClassHere, IsEraOf, IsGood, IsLawful, IsLinkOf, IsPermitted, IsPossible, IsServedClass, IsSiteOf, IsSoundCatalogue, IsTable, IsTheLog, IsWhole, Kept, Link, Log, Lose, MAX_DMS, MAX_TMS, Mark, Message, Msg, Notes, Null, Packet, Pipe, Puts, Queued, Read, Rec, Redeclare, Redeclares, Repeat, Represent, Resend, Rests, Round, Setting, Settle, Site, Submit, Submitted, T, TakesRounds, Tick, TmNo, Ts, Txn, TxnNo, U, Up, Write, after_mark, all_links, all_of, are_linked, arrives, asks, bound_of, calls_of, class_at, class_in, class_no, clock, dated, deliver, delivered, dm_no, goes_through, greatest_bound, handed, hands_from, has_copy, head, head_of, history, holds, holds_back, home, is_down, is_empty, is_here, is_link, is_met, is_site, left, link, link_of, links, local_of, lose, mark_from, mark_of, marks, next, next_mark, nth_era, numbers_to, or_zero, packet_as, packet_at, pipe, puts, puts_to, quiet, redeclares, rel_no, repeat, resend, round, runs, same_site, sends_of_act, sent, setting_of, sites, spelled, time_at, time_of, tm_no, turned, txn_no, view_of, waits, with_event, with_packet, without_packet}
+pub use Rattle.sdd_obligations.specs.All.{Ack, Act, Apply, Attempt, Call, Catalogue, Change, Class, ClassNo, ClassState, ClassView, Commit, Cond, D, Deliver, Did, DmNo, Does, Done, Down, Entry, Event, FitsStart, FragNo, Fragment, Hand, History, Input, IsClassHere, IsEraOf, IsGood, IsLawful, IsLinkOf, IsPermitted, IsPossible, IsServedClass, IsSiteOf, IsSoundCatalogue, IsTable, IsTheLog, IsWhole, Kept, Link, Log, Lose, MAX_DMS, MAX_TMS, Mark, Message, Msg, Notes, Null, Packet, Pipe, Puts, Queued, Read, Rec, Records, Redeclare, Redeclared, Redeclares, Repeat, Represent, Resend, Rests, Round, Sends, Setting, Settle, Site, Start, Submit, Submitted, T, TakesRounds, Tick, Ticked, TmNo, Ts, Txn, TxnNo, U, Up, Write, after_mark, all_links, all_of, are_linked, arrives, asks, base_of, bound_of, calls_of, class_at, class_for, class_in, class_no, clock, dated, deliver, delivered, dm_no, does_at, given_by, goes_through, greatest_bound, handed, hands_from, has_copy, head, head_of, history, holds, holds_back, home, is_down, is_empty, is_here, is_link, is_met, is_site, left, link, link_of, links, local_of, lose, mark_due, mark_from, mark_of, marks, newly_delivered, next, next_at, next_in, next_mark, note_if, nth_era, numbers_to, or_zero, packet_as, packet_at, pipe, puts, puts_to, quiet, redeclares, rel_no, repeat, resend, round, runs, same_site, sends_of_act, sent, setting_of, site_due, sites, spelled, takes_part as takes_at, time_at, time_of, tm_no, tried, turned, txn_at, txn_no, view_of, waits, with_event, with_packet, with_submit, without_packet}
 pub use Rattle.sdd_obligations.specs.attempt.Lines.{Line, awaited_by, lacked_by, tries_of_first}
+pub use Rattle.sdd_obligations.specs.attempt.Queues.{queue as queue_in_log, txn_of}
 pub use Rattle.sdd_obligations.specs.attempt.Phases.{awaited_in}
 pub use Rattle.sdd_obligations.specs.attempt.Sound.{IsLineOf, IsOfHead}
 pub use Rattle.sdd_obligations.specs.attempt.declared.answer.Answer.{Answer}
@@ -66,6 +73,7 @@ pub use Rattle.sdd_obligations.specs.dm.Represents.{Shows}
 pub use Rattle.sdd_obligations.specs.dm.State.{State}
 pub use Rattle.sdd_obligations.specs.dm.Views.{class_view}
 pub use Rattle.sdd_obligations.specs.dm.Waiting.{holder_at, holders_in, holders_of, unmet_in, unmet_of}
+pub use Rattle.sdd_obligations.specs.history.declared.record.Rec.TheVariants.{Submit as Submission}
 pub use Rattle.sdd_obligations.specs.invariants.Steps.{changes_at}
 pub use Rattle.sdd_obligations.specs.lang.Fits.{FitsTxn}
 pub use Rattle.sdd_obligations.specs.logs.Due.{home_of as site_of}
@@ -85,6 +93,7 @@ pub use Rattle.sdd_run.proofs.Starting.{all_allowed, starts}
 pub use Rattle.sdd_run.proofs.Whole.{rows_start}
 pub use Rattle.sdd_run.proofs.progress.ErasOf.{marks_up as marks_above}
 pub use Rattle.sdd_run.proofs.progress.Handed.{link_there}
+pub use Rattle.sdd_run.proofs.progress.Lists.{none_at}
 pub use Rattle.sdd_run.proofs.progress.Still.{d_site, t_site}
 pub use Rattle.sdd_run.proofs.progress.lawful.Touched.{copy_module}
 pub use Rattle.sdd_run.proofs.world.Carrying.{ends_from, first_allowed, first_one, lists_stay, next_list, no_rounds, with_first}
@@ -110,18 +119,22 @@ pub use Rattle.sdd_run.specs.world.declared.schedule.ClassList.{ClassList}
 pub use Rattle.sdd_run.specs.world.declared.sites.Sites.{Sites}
 pub use Rattle.sdd_run.specs.world.declared.world.World.{World}
 pub use Rattle.sdd_watch.specs.Awaiting.{behind, number_for, purpose_of, purposed, purposed_above, up_to, waiting_on}
-pub use Rattle.sdd_watch.specs.Happens.{applied_by, applied_in, arrived_by, arrived_of, changes_applied, changes_of, committed_by, committed_in, concerns, found_by, happened_at, is_of_item, is_reached, last_event, lost_by, place_in, place_of_first, report_row, round_at, round_in, rounds, row_by, row_left, rows_of, scheduled_at, something_if, states_of, taken, takes_part, unless_in_round, with_row}
+pub use Rattle.sdd_watch.specs.Happens.{applied_by, applied_in, arrived_by, arrived_of, changes_applied, changes_of, committed_by, committed_in, concerns, found_by, happened_at, have_moved, is_of_item, is_of_queue, is_reached, last_event, lost_by, place_in, place_of_first, report_row, round_at, round_in, rounds, row_by, row_left, rows_of, scheduled_at, something_if, states_of, taken, takes_part, unless_in_round, with_row}
 pub use Rattle.sdd_watch.specs.Keeping.{IsLineInOrder, active_of, head_in, question_by, questions_in}
-pub use Rattle.sdd_watch.specs.Looking.{advanced, all_waiting, messages_in, numbers_for, queue_in, queue_of, says, says_one, seen_with}
+pub use Rattle.sdd_watch.specs.Looking.{ArePipesSeen, AreSeen, advanced, all_waiting, messages_in, numbers_for, queue_in, queue_of, says, says_one, seen_with}
 pub use Rattle.sdd_watch.specs.Moments.{all_pipes, at_event, came, link_moment, moment_of, number_through, passed_to, pipe_moment, pipes_at_module, queue_moment, queues_at, queues_of, source, time_passed}
+pub use Rattle.sdd_watch.specs.Reaching.{is_between, is_touched, may_act, may_change_from, reach_of, reach_of_delivery}
 pub use Rattle.sdd_watch.specs.States.{actives, head_by, phase_by, questions_to, report_head, reported_active, reported_attempt, reported_dm, reported_tm, says_applied, state_of, unapplied_of}
 pub use Rattle.sdd_watch.specs.ScheduleSoFar.{IsReported, IsTextOf, Tells, TellsBetween, TellsRound, TellsSettled}
 pub use Rattle.sdd_watch.specs.Text.{IsInsideOf, change, inside_text, line_of}
-pub use Rattle.sdd_watch.specs.Watching.{AreCommits, AreDones, IsBetween, IsMark, IsOver, IsTellable, IsToTell, IsTurn, Knows, Watches, arrived, arrived_on, changed_links, changed_pipes, foresee_act, foresee_take, foreseen_by, handed_over, is_changed_link, is_changed_pipe, is_done_at, is_on, is_still_link, is_still_pipe, is_taken, left_between, left_of, link_after, link_before, pipe_after, pipe_before, seen_between, taken_at, watched_link, watched_pipe}
+pub use Rattle.sdd_watch.specs.Watching.{AreCommits, AreDones, IsBetween, IsMark, IsOver, IsTellable, IsToTell, IsTurn, Knows, Watches, all_sites, arrived, arrived_on, changed_links, changed_pipes, foresee_act, foresee_take, foreseen_by, handed_over, is_changed_link, is_changed_pipe, is_done_at, is_on, is_still_link, is_still_pipe, is_taken, left_between, left_of, link_after, link_before, links_from, pipe_after, pipe_before, seen_between, taken_at, watched_link, watched_links, watched_pipe, watched_pipes}
+pub use Rattle.sdd_watch.specs.declared.both.Both.{Both}
 pub use Rattle.sdd_watch.specs.declared.commits.Commits.{Commits}
 pub use Rattle.sdd_watch.specs.declared.dones.Dones.{Dones}
 pub use Rattle.sdd_watch.specs.declared.foreseen.Foreseen.{Foreseen}
 pub use Rattle.sdd_watch.specs.declared.foreseen.Foreseen.TheVariants.{Something}
+pub use Rattle.sdd_watch.specs.declared.reach.Reach.{Reach}
+pub use Rattle.sdd_watch.specs.declared.reach.Reach.TheVariants.{Across, Along, Around, From, Nowhere}
 pub use Rattle.sdd_watch.specs.declared.teller.Teller.{Teller}
 pub use Rattle.sdd_watch.specs.declared.waiting.Purpose.{Purpose}
 pub use Rattle.sdd_watch.specs.declared.waiting.Purpose.TheVariants.{Applied}
@@ -129,6 +142,7 @@ pub use Rattle.sdd_watch.specs.declared.watch.Turn.{Turn}
 pub use Rattle.sdd_watch.specs.declared.watch.Watch.{Watch}
 pub use Rattle.sdd_watch.specs.declared.watched_link.Arrived.{Arrived}
 pub use Rattle.sdd_watch.specs.declared.watched_link.LinkSeen.{LinkSeen}
+pub use Rattle.sdd_watch.specs.declared.watched_link.OnLinks.{OnLinks}
 pub use Rattle.sdd_watch.specs.declared.watched_link.WatchedLink.{WatchedLink}
 pub use Rattle.sdd_watch.specs.declared.watched_pipe.WatchedPipe.{WatchedPipe}
 pub use Rattle.std.proofs.Common.{All, Bool, Err, IfOk, List, MatchOption, None, Ok, OnOk, Option, Result, SFits as FitsSigned, Some, [], add-one, ap, append-nil, append_assoc, arith, cond, drop, drop-cons, drop-drop, drop-set-lt, eq-eqb, eqb-true, false, filter, filter_map, find, flat_map, fold, if◌then◌else◌, inl, inr, is_some, le-leb, le-ltb, length, length-take-le, lt-ltb, map, map-id, max, nat_cmp, nat_le, nat_lt, not, option_map, pos, position, refl, rules, slice_get, slice_index_or as get_or, slice_set, subst, suc, sym, take, take-append-drop, take_all, true, unwrap_or, w64, zero, ℕ, ℤ, ◌&&◌, ◌*◌, ◌++◌, ◌+◌, ◌-◌, ◌/◌, ◌<◌, ◌==◌, ◌^◌, ◌||◌, ◌∙◌, ◌∷◌, ◌≡◌, ◌≢◌, ◌≤◌, ◌⊎◌}

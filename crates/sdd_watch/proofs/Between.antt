@@ -5,7 +5,7 @@ use Rattle.sdd_watch.proofs.Numbered.{behind_is, flying, noted, up_to_is}
 
 -- sites
 
-both_back : (x y a b : Site) → (same_site a x && same_site b y) ≡ (same_site x a && same_site y b)
+pub both_back : (x y a b : Site) → (same_site a x && same_site b y) ≡ (same_site x a && same_site y b)
 both_back x y a b = ap (λ z. z && same_site b y) (same_back a x) ∙ ap (λ z. same_site x a && z) (same_back b y)
 
 pub same_link : (x y a b : Site) → (same_site x a && same_site y b) ≡ true → (x ≡ a) × (y ≡ b)

@@ -46,3 +46,10 @@ pub mod ToTell
 pub mod Unapplied
 pub mod Visited
 pub use Rattle.sdd_run.proofs as run
+pub mod FirstLinks
+mod LeftAlone
+mod LinksKept
+mod ModulesVisited
+mod PipesKept
+mod QueuesKept
+mod Reached

@@ -1,81 +1,217 @@
 -- A look at each link, one after the other.
-use Rattle.sdd_watch.proofs.All.{Arrived, Input, IsLinkOf, LinkMoment, LinkSeen, List, Log, Site, WatchedLink, [], all_links, ap, arith, arrived, arrived_on, changed_links, cond, cons_option, filter, filter_map, get_or, is_changed_link, is_still_link, length, length-map, link_after, link_before, link_of_links, map, not, seen_between, slice_set, subst, sym, take, take_all, watched_link, ℕ, ◌++◌, ◌+◌, ◌<◌, ◌∙◌, ◌∷◌, ◌≡◌, ◌≤◌}
-use Rattle.sdd_watch.proofs.Visited.{PlaceAt, all_changed, changed_to, filtered_last, picked_last, place_at}
+use Rattle.sdd_watch.proofs.All.{All-at, AreSeen, Bool, Event, Found, Input, IsLinkOf, IsOver, IsSiteOf, IsThere, LinkSeen, List, Log, None, OnLinks, Reach, Site, Some, WatchedLink, World, [], all_links, all_sites, ap, append-nil, arith, arrived_on, cond, cons_option, eqb-true, false, filter, filter_map, flat_map, found_by, get_or, in_left, in_right, is_changed_link, is_still_link, is_touched, last_event, length, length-map, link_after, link_before, link_of_links, links_from, map, may_change_from, not, reach_of, refl, seen_between, sent, site_there, slice_get, slice_set, suc, subst, sym, take, take_all, true, watched_link, watched_links, zero, ℕ, ◌++◌, ◌+◌, ◌<◌, ◌==◌, ◌||◌, ◌∙◌, ◌∷◌, ◌≡◌, ◌≤◌}
+use Rattle.sdd_watch.proofs.Happening.{sites_there}
+use Rattle.sdd_watch.proofs.LinksKept.{IsStill, link_stays, site_still}
+use Rattle.sdd_watch.proofs.Reached.{neither, reach_after}
+use Rattle.sdd_watch.proofs.Visited.{PlaceAt, all_changed, changed_to, filtered_join, filtered_one, group_more, picked_join, place_at}
+
+-- one link
+
+-- by the event that is carried out
+reach_reported : (g : Input) (old new : Log) (event : Event) (found : Found) (r : Reach) → event ≡ last_event new → found ≡ found_by event old new
+    → r ≡ reach_of g new event found → r ≡ reach_after g old new new
+reach_reported g old new event found r e f is =
+    is ∙ ap (reach_of g new event) f ∙ ap (λ x. reach_of g new x (found_by x old new)) e
+
+pub as_many : (n m : ℕ) → not (n == m) ≡ false → n ≡ m
+as_many n m e = eqb-true n m (elim (n == m) as (λ b. not b ≡ false → b ≡ true) [
+  | true ↦ λ p. refl
+  | false ↦ λ p. sym p
+] e)
+
+-- a link that is passed over is still
+pub link_passed : (g : Input) (old new : Log) (w : World) (event : Event) (found : Found) (r : Reach) (l : Site × Site) (link : WatchedLink) (b : Bool)
+    → IsOver g old new w event found → r ≡ reach_of g new event found → link ≡ watched_link old l
+    → b ≡ (is_touched r link.from link.to || not (length (sent link.from link.to new) == link.sent)) → b ≡ false → IsStill old new l
+link_passed g old new w event found r l link b over is stood test e =
+    let at : r ≡ reach_after g old new new = reach_reported g old new event found r over.event_is over.found_is is in
+    let none = neither (is_touched (reach_after g old new new) l.0 l.1) (not (length (sent l.0 l.1 new) == length (sent l.0 l.1 old)))
+    ((λ i. is_touched (sym at i) (sym stood i).from (sym stood i).to || not (length (sent (sym stood i).from (sym stood i).to new) == (sym stood i).sent))
+    ∙ sym test ∙ e) in
+    link_stays g old new over.calm.parts.good over.between l.0 l.1 none.0 (as_many (length (sent l.0 l.1 new)) (length (sent l.0 l.1 old)) none.1)
+
+pub link_passed_kept : (old new : Log) (l : Site × Site) (link : WatchedLink) → link ≡ watched_link old l → IsStill old new l → link ≡ watched_link new l
+link_passed_kept old new l link stood s = stood ∙ sym s.kept
+
+-- nothing is seen of none, and what is seen of some links and then of others is seen of all
+
+pub seen_none : (old new : Log) (first : OnLinks) → AreSeen old new [] first first
+seen_none old new first = record {
+  before_are = sym (append-nil first.moments.before.items);
+  after_are = sym (append-nil first.moments.after.items);
+  arrived_are = sym (append-nil first.arrived.items);
+}
+
+pub seen_join : (old new : Log) (xs ys : List (Site × Site)) (first mid last : OnLinks) → AreSeen old new xs first mid → AreSeen old new ys mid last
+    → AreSeen old new (xs ++ ys) first last
+seen_join old new xs ys first mid last e h = record {
+  before_are = filtered_join (is_changed_link old new) (link_before old) xs ys first.moments.before.items mid.moments.before.items
+      last.moments.before.items e.before_are h.before_are;
+  after_are = filtered_join (is_changed_link old new) (link_after old new) xs ys first.moments.after.items mid.moments.after.items
+      last.moments.after.items e.after_are h.after_are;
+  arrived_are = picked_join (arrived_on old new) xs ys first.arrived.items mid.arrived.items last.arrived.items e.arrived_are h.arrived_are;
+}
+
+pub passed_seen : (old new : Log) (l : Site × Site) (first : OnLinks) → IsStill old new l → AreSeen old new (l ∷ []) first first
+passed_seen old new l first s = record {
+  before_are = sym (append-nil first.moments.before.items)
+      ∙ ap (λ b. first.moments.before.items ++ map (link_before old) (cond b (l ∷ []) [])) (sym s.unchanged);
+  after_are = sym (append-nil first.moments.after.items)
+      ∙ ap (λ b. first.moments.after.items ++ map (link_after old new) (cond b (l ∷ []) [])) (sym s.unchanged);
+  arrived_are = sym (append-nil first.arrived.items) ∙ ap (λ o. first.arrived.items ++ cons_option o []) (sym s.none);
+}
+
+-- one that is looked at
+pub looked_seen : (old new : Log) (l : Site × Site) (seen : LinkSeen) (first last : OnLinks) → seen ≡ seen_between old new l
+    → last.moments.before.items ≡ first.moments.before.items ++ cond (not (is_still_link seen.before seen.after)) (seen.before ∷ []) []
+    → last.moments.after.items ≡ first.moments.after.items ++ cond (not (is_still_link seen.before seen.after)) (seen.after ∷ []) []
+    → last.arrived.items ≡ first.arrived.items ++ cons_option seen.arrived [] → AreSeen old new (l ∷ []) first last
+looked_seen old new l seen first last is b a c = record {
+  before_are = b ∙ ap (λ (y : LinkSeen). first.moments.before.items ++ cond (not (is_still_link y.before y.after)) (y.before ∷ []) []) is
+      ∙ ap (λ ms. first.moments.before.items ++ ms) (sym (filtered_one (is_changed_link old new) (link_before old) l));
+  after_are = a ∙ ap (λ (y : LinkSeen). first.moments.after.items ++ cond (not (is_still_link y.before y.after)) (y.after ∷ []) []) is
+      ∙ ap (λ ms. first.moments.after.items ++ ms) (sym (filtered_one (is_changed_link old new) (link_after old new) l));
+  arrived_are = c ∙ ap (λ (y : LinkSeen). first.arrived.items ++ cons_option y.arrived []) is;
+}
+
+-- the links from a site
+
+in_group : {A B : Type 0} (h : A → List B) (xs : List A) (k : ℕ) (x : A) (j : ℕ) (y : B) → slice_get xs k ≡ Some x → slice_get (h x) j ≡ Some y
+    → IsThere (flat_map h xs) y
+in_group h [] k x j y e f = absurd (let no : None ≡ Some x = e in cc)
+in_group h (z ∷ xs) zero x j y e f =
+    let is : z ≡ x = cc in
+    let at : slice_get (h z) j ≡ Some y = subst (λ w. slice_get (h w) j ≡ Some y) (sym is) f in
+    (j, in_left (h z) (flat_map h xs) j y at)
+in_group h (z ∷ xs) (suc k) x j y e f = let r = in_group h xs k x j y e f in in_right (h z) (flat_map h xs) r.0 y r.1
+
+links_there : (g : Input) (a : Site) → IsSiteOf g a → (k : ℕ) (l : Site × Site) → slice_get (links_from g a) k ≡ Some l → IsLinkOf g l.0 l.1
+links_there g a here k l e =
+    let p = site_there g.catalogue.tms g.catalogue.dms a here in
+    link_of_links g.catalogue.tms g.catalogue.dms l.0 l.1 (in_group (links_from g) (all_sites g) p.0 a k l p.1 e)
 
 -- of the first so many links what is kept and was seen
-pub record LinksSoFar (g : Input) (old new : Log) (i : ℕ) (links : List WatchedLink) (before after : List LinkMoment) (come : List Arrived) : Type 0 where
-  pub links_are : links ≡ changed_to (watched_link old) (watched_link new) i (all_links g)
-  pub before_are : before ≡ map (link_before old) (filter (is_changed_link old new) (take i (all_links g)))
-  pub after_are : after ≡ map (link_after old new) (filter (is_changed_link old new) (take i (all_links g)))
-  pub come_are : come ≡ filter_map (arrived_on old new) (take i (all_links g))
+pub record LinksSoFar (g : Input) (old new : Log) (a : Site) (i : ℕ) (links : List WatchedLink) (first now : OnLinks) : Type 0 where
+  pub links_are : links ≡ changed_to (watched_link old) (watched_link new) i (links_from g a)
+  pub seen : AreSeen old new (take i (links_from g a)) first now
 
-pub no_links_yet : (g : Input) (old new : Log) (links : List WatchedLink) (before after : List LinkMoment) (come : List Arrived)
-    → links ≡ map (watched_link old) (all_links g) → before ≡ [] → after ≡ [] → come ≡ [] → LinksSoFar g old new 0 links before after come
-no_links_yet g old new links before after come e b a c = record { links_are = e; before_are = b; after_are = a; come_are = c }
+pub no_links_yet : (g : Input) (old new : Log) (a : Site) (links : List WatchedLink) (first : OnLinks)
+    → links ≡ map (watched_link old) (links_from g a) → LinksSoFar g old new a 0 links first first
+no_links_yet g old new a links first e = record { links_are = e; seen = seen_none old new first }
 
--- there are as many links as places
-pub few_links : (g : Input) (old : Log) (begun : List WatchedLink) (i : ℕ) → begun ≡ map (watched_link old) (all_links g) → i < length begun
-    → i < length (all_links g)
-few_links g old begun i e few = let n = ap length e ∙ length-map (all_links g) (watched_link old) in omega (arith, few, n)
+few_links : (g : Input) (old : Log) (a : Site) (begun : List WatchedLink) (i : ℕ) → begun ≡ map (watched_link old) (links_from g a) → i < length begun
+    → i < length (links_from g a)
+few_links g old a begun i e few = let n = ap length e ∙ length-map (links_from g a) (watched_link old) in omega (arith, few, n)
 
-pub link_at : (g : Input) (old new : Log) (begun links : List WatchedLink) (i : ℕ) (x : WatchedLink) (before after : List LinkMoment) (come : List Arrived)
-    → begun ≡ map (watched_link old) (all_links g) → i < length begun → LinksSoFar g old new i links before after come → x ≡ get_or links i x
-    → PlaceAt (watched_link old) (watched_link new) (all_links g) links i (i + 1) x
-link_at g old new begun links i x before after come e few s is =
-    place_at (watched_link old) (watched_link new) (all_links g) links i (i + 1) x (omega arith) (few_links g old begun i e few) s.links_are is
+pub link_at : (g : Input) (old new : Log) (a : Site) (begun links : List WatchedLink) (i : ℕ) (x : WatchedLink) (first now : OnLinks)
+    → begun ≡ map (watched_link old) (links_from g a) → i < length begun → LinksSoFar g old new a i links first now → x ≡ get_or links i x
+    → PlaceAt (watched_link old) (watched_link new) (links_from g a) links i (i + 1) x
+link_at g old new a begun links i x first now e few s is =
+    place_at (watched_link old) (watched_link new) (links_from g a) links i (i + 1) x (omega arith) (few_links g old a begun i e few) s.links_are is
 
-pub place_linked : (g : Input) (old new : Log) (links : List WatchedLink) (i : ℕ) (x : WatchedLink)
-    → (p : PlaceAt (watched_link old) (watched_link new) (all_links g) links i (i + 1) x) → IsLinkOf g p.place.0 p.place.1
-place_linked g old new links i x p = link_of_links g.catalogue.tms g.catalogue.dms p.place.0 p.place.1 (i, p.is_there)
+pub place_linked : (g : Input) (old new : Log) (a : Site) (links : List WatchedLink) (i : ℕ) (x : WatchedLink) → IsSiteOf g a
+    → (p : PlaceAt (watched_link old) (watched_link new) (links_from g a) links i (i + 1) x) → IsLinkOf g p.place.0 p.place.1
+place_linked g old new a links i x here p = links_there g a here i p.place p.is_there
 
 -- the link at hand is one of the network
-pub at_link : (g : Input) (old new : Log) (begun links : List WatchedLink) (i : ℕ) (x : WatchedLink) (before after : List LinkMoment) (come : List Arrived)
-    → begun ≡ map (watched_link old) (all_links g) → i < length begun → LinksSoFar g old new i links before after come → x ≡ get_or links i x
+pub at_link : (g : Input) (old new : Log) (a : Site) (begun links : List WatchedLink) (i : ℕ) (x : WatchedLink) (first now : OnLinks) → IsSiteOf g a
+    → begun ≡ map (watched_link old) (links_from g a) → i < length begun → LinksSoFar g old new a i links first now → x ≡ get_or links i x
     → IsLinkOf g (get_or links i x).from (get_or links i x).to
-at_link g old new begun links i x before after come e few s is =
-    let p = link_at g old new begun links i x before after come e few s is in
-    subst (λ (w : WatchedLink). IsLinkOf g w.from w.to) (sym p.stood ∙ is) (place_linked g old new links i x p)
+at_link g old new a begun links i x first now here e few s is =
+    let p = link_at g old new a begun links i x first now e few s is in
+    subst (λ (w : WatchedLink). IsLinkOf g w.from w.to) (sym p.stood ∙ is) (place_linked g old new a links i x here p)
 
 -- one more is looked at
-pub links_more : (g : Input) (old new : Log) (begun links : List WatchedLink) (i : ℕ) (x next : WatchedLink) (seen : LinkSeen)
-    (before after before2 after2 : List LinkMoment) (come come2 : List Arrived)
-    → begun ≡ map (watched_link old) (all_links g) → i < length begun → LinksSoFar g old new i links before after come → x ≡ get_or links i x
-    → ((l : Site × Site) → IsLinkOf g l.0 l.1 → x ≡ watched_link old l → seen ≡ seen_between old new l)
+pub links_more : (g : Input) (old new : Log) (a : Site) (begun links : List WatchedLink) (i : ℕ) (x next : WatchedLink) (first now then : OnLinks)
+    → IsSiteOf g a → begun ≡ map (watched_link old) (links_from g a) → i < length begun → LinksSoFar g old new a i links first now → x ≡ get_or links i x
     → ((l : Site × Site) → IsLinkOf g l.0 l.1 → x ≡ watched_link old l → next ≡ watched_link new l)
-    → before2 ≡ before ++ cond (not (is_still_link seen.before seen.after)) (seen.before ∷ []) []
-    → after2 ≡ after ++ cond (not (is_still_link seen.before seen.after)) (seen.after ∷ []) [] → come2 ≡ come ++ cons_option seen.arrived []
-    → LinksSoFar g old new (i + 1) (slice_set links i next) before2 after2 come2
-links_more g old new begun links i x next seen before after before2 after2 come come2 e few s is looks keeps b a c =
-    let ls : List (Site × Site) = all_links g in
-    let p = link_at g old new begun links i x before after come e few s is in
-    let linked = place_linked g old new links i x p in
-    let reported : seen ≡ seen_between old new p.place = looks p.place linked p.stood in
+    → ((l : Site × Site) → IsLinkOf g l.0 l.1 → x ≡ watched_link old l → AreSeen old new (l ∷ []) now then)
+    → LinksSoFar g old new a (i + 1) (slice_set links i next) first then
+links_more g old new a begun links i x next first now then here e few s is keeps sees =
+    let ls : List (Site × Site) = links_from g a in
+    let p = link_at g old new a begun links i x first now e few s is in
+    let linked = place_linked g old new a links i x here p in
     record {
       links_are = p.changed next (keeps p.place linked p.stood);
-      before_are = filtered_last (is_changed_link old new) (link_before old) (take i ls) p.place (take (i + 1) ls) before before2 _ s.before_are b
-          (ap (λ (y : LinkSeen). cond (not (is_still_link y.before y.after)) (y.before ∷ []) []) reported) p.further;
-      after_are = filtered_last (is_changed_link old new) (link_after old new) (take i ls) p.place (take (i + 1) ls) after after2 _ s.after_are a
-          (ap (λ (y : LinkSeen). cond (not (is_still_link y.before y.after)) (y.after ∷ []) []) reported) p.further;
-      come_are = picked_last (arrived_on old new) (take i ls) p.place (take (i + 1) ls) come come2 seen.arrived s.come_are c
-          (ap (λ (y : LinkSeen). y.arrived) reported) p.further;
+      seen = subst (λ xs. AreSeen old new xs first then) (sym p.further)
+          (seen_join old new (take i ls) (p.place ∷ []) first now then s.seen (sees p.place linked p.stood));
     }
 
 -- all are looked at
-pub record LinksOver (g : Input) (old new : Log) (links : List WatchedLink) (before after : List LinkMoment) (come : List Arrived) : Type 0 where
-  pub links_are : links ≡ map (watched_link new) (all_links g)
-  pub before_are : before ≡ map (link_before old) (changed_links g old new)
-  pub after_are : after ≡ map (link_after old new) (changed_links g old new)
-  pub come_are : come ≡ arrived g old new
+pub links_over : (g : Input) (old new : Log) (a : Site) (begun links : List WatchedLink) (i : ℕ) (first now : OnLinks)
+    → begun ≡ map (watched_link old) (links_from g a) → length begun ≤ i → LinksSoFar g old new a i links first now
+    → (links ≡ map (watched_link new) (links_from g a)) × AreSeen old new (links_from g a) first now
+links_over g old new a begun links i first now e past s =
+    let ls : List (Site × Site) = links_from g a in
+    let n = ap length e ∙ length-map ls (watched_link old) in
+    let all : take i ls ≡ ls = take_all i ls (omega (arith, past, n)) in (
+      s.links_are ∙ all_changed (watched_link old) (watched_link new) i ls (omega (arith, past, n)),
+      subst (λ xs. AreSeen old new xs first now) all s.seen,
+    )
 
-pub links_over : (g : Input) (old new : Log) (begun links : List WatchedLink) (i : ℕ) (before after : List LinkMoment) (come : List Arrived)
-    → begun ≡ map (watched_link old) (all_links g) → length begun ≤ i → LinksSoFar g old new i links before after come
-    → LinksOver g old new links before after come
-links_over g old new begun links i before after come e past s =
-    let n = ap length e ∙ length-map (all_links g) (watched_link old) in
-    let all : take i (all_links g) ≡ all_links g = take_all i (all_links g) (omega (arith, past, n)) in
+-- all sites
+
+-- a site is passed over where none of its links may change
+pub site_passed : (g : Input) (old new : Log) (w : World) (event : Event) (found : Found) (r : Reach) (a : Site) (links : Site × List WatchedLink)
+    (first : OnLinks) (b : Bool) → IsOver g old new w event found → r ≡ reach_of g new event found → IsSiteOf g a → links ≡ watched_links g old a
+    → b ≡ may_change_from r links.0 → b ≡ false → (links ≡ watched_links g new a) × AreSeen old new (links_from g a) first first
+site_passed g old new w event found r a links first b over is here stood test e =
+    let at : r ≡ reach_after g old new new = reach_reported g old new event found r over.event_is over.found_is is in
+    let none : may_change_from (reach_after g old new new) a ≡ false =
+    (λ i. may_change_from (sym at i) (sym stood i).0) ∙ sym test ∙ e in
+    let s = site_still g old new a over.calm.parts.good over.between here none in (
+      stood ∙ ap (λ ws. (a, ws)) (sym s.kept),
+      record {
+        before_are = sym (append-nil first.moments.before.items) ∙ ap (λ ls. first.moments.before.items ++ map (link_before old) ls) (sym s.unchanged);
+        after_are = sym (append-nil first.moments.after.items) ∙ ap (λ ls. first.moments.after.items ++ map (link_after old new) ls) (sym s.unchanged);
+        arrived_are = sym (append-nil first.arrived.items) ∙ ap (λ xs. first.arrived.items ++ xs) (sym s.none);
+      },
+    )
+
+pub record SitesSoFar (g : Input) (old new : Log) (i : ℕ) (links : List (Site × List WatchedLink)) (first now : OnLinks) : Type 0 where
+  pub links_are : links ≡ changed_to (watched_links g old) (watched_links g new) i (all_sites g)
+  pub seen : AreSeen old new (flat_map (links_from g) (take i (all_sites g))) first now
+
+pub no_sites_yet : (g : Input) (old new : Log) (links : List (Site × List WatchedLink)) (first : OnLinks) → links ≡ map (watched_links g old) (all_sites g)
+    → SitesSoFar g old new 0 links first first
+no_sites_yet g old new links first e = record { links_are = e; seen = seen_none old new first }
+
+pub site_at : (g : Input) (old new : Log) (begun links : List (Site × List WatchedLink)) (i : ℕ) (x : Site × List WatchedLink) (first now : OnLinks)
+    → begun ≡ map (watched_links g old) (all_sites g) → i < length begun → SitesSoFar g old new i links first now → x ≡ get_or links i x
+    → PlaceAt (watched_links g old) (watched_links g new) (all_sites g) links i (i + 1) x
+site_at g old new begun links i x first now e few s is =
+    let n = ap length e ∙ length-map (all_sites g) (watched_links g old) in
+    place_at (watched_links g old) (watched_links g new) (all_sites g) links i (i + 1) x (omega arith) (omega (arith, few, n)) s.links_are is
+
+pub site_here : (g : Input) (k : ℕ) (a : Site) → slice_get (all_sites g) k ≡ Some a → IsSiteOf g a
+site_here g k a e = All-at (IsSiteOf g) (all_sites g) k a e (sites_there g)
+
+pub sites_more : (g : Input) (old new : Log) (begun links : List (Site × List WatchedLink)) (i : ℕ) (x next : Site × List WatchedLink)
+    (first now then : OnLinks) → begun ≡ map (watched_links g old) (all_sites g) → i < length begun → SitesSoFar g old new i links first now
+    → x ≡ get_or links i x
+    → ((a : Site) → IsSiteOf g a → x ≡ watched_links g old a → next ≡ watched_links g new a)
+    → ((a : Site) → IsSiteOf g a → x ≡ watched_links g old a → AreSeen old new (links_from g a) now then)
+    → SitesSoFar g old new (i + 1) (slice_set links i next) first then
+sites_more g old new begun links i x next first now then e few s is keeps sees =
+    let all : List Site = all_sites g in
+    let p = site_at g old new begun links i x first now e few s is in
+    let here = site_here g i p.place p.is_there in
     record {
-      links_are = s.links_are ∙ all_changed (watched_link old) (watched_link new) i (all_links g) (omega (arith, past, n));
-      before_are = s.before_are ∙ ap (λ ls. map (link_before old) (filter (is_changed_link old new) ls)) all;
-      after_are = s.after_are ∙ ap (λ ls. map (link_after old new) (filter (is_changed_link old new) ls)) all;
-      come_are = s.come_are ∙ ap (filter_map (arrived_on old new)) all;
+      links_are = p.changed next (keeps p.place here p.stood);
+      seen = subst (λ ls. AreSeen old new ls first then) (sym (group_more (links_from g) (take i all) p.place (take (i + 1) all) p.further))
+          (seen_join old new (flat_map (links_from g) (take i all)) (links_from g p.place) first now then s.seen (sees p.place here p.stood));
     }
+
+pub sites_over : (g : Input) (old new : Log) (begun links : List (Site × List WatchedLink)) (i : ℕ) (first now : OnLinks)
+    → begun ≡ map (watched_links g old) (all_sites g) → length begun ≤ i → SitesSoFar g old new i links first now
+    → (links ≡ map (watched_links g new) (all_sites g)) × AreSeen old new (all_links g) first now
+sites_over g old new begun links i first now e past s =
+    let n = ap length e ∙ length-map (all_sites g) (watched_links g old) in
+    let all : take i (all_sites g) ≡ all_sites g = take_all i (all_sites g) (omega (arith, past, n)) in (
+      s.links_are ∙ all_changed (watched_links g old) (watched_links g new) i (all_sites g) (omega (arith, past, n)),
+      subst (λ xs. AreSeen old new (flat_map (links_from g) xs) first now) all s.seen,
+    )
+
+-- from nothing
+pub seen_all : {A : Type 0} (first found last : List A) → first ≡ [] → last ≡ first ++ found → last ≡ found
+seen_all first found last none e = e ∙ ap (λ xs. xs ++ found) none

@@ -1,5 +1,5 @@
 -- A look at a pipe, at what is read of it in the world.
-use Rattle.sdd_watch.proofs.All.{AllRepresent, Arrived, D, Digest, DmNo, Input, IsBetween, IsDigest, IsGood, IsSiteOf, Kept, List, LivesD, Log, Msg, None, Option, Pipe, PipeMoment, Setting, Sites, Some, State, Ts, WatchedPipe, [], ap, arith, arrived, came, class_no, dm_no, drop, greatest, head_of, lawful_permitted, length, local_of, map, numbers_for, or_zero, passed_to, passed_with, pipe, pipe_after, pipe_at, pipe_before, refl, setting_of, source, subst, time_at, time_of, time_passed, watched_pipe, ℕ, ◌+◌, ◌-◌, ◌∙◌, ◌≡◌, ◌≤◌}
+use Rattle.sdd_watch.proofs.All.{AllRepresent, Arrived, Bool, D, Digest, DmNo, Input, IsBetween, IsDigest, IsGood, IsSiteOf, Kept, List, LivesD, Log, Msg, None, Option, Pipe, PipeMoment, Setting, Sites, Some, State, Ts, WatchedPipe, [], and_parts, ap, arith, arrived, came, class_no, dm_no, drop, eqb-true, false, greatest, head_of, is_changed_pipe, is_empty, lawful_permitted, length, local_of, map, not, numbers_for, or_zero, passed_to, passed_with, pipe, pipe_after, pipe_at, pipe_before, refl, setting_of, source, subst, sym, time_at, time_of, time_passed, true, watched_pipe, ℕ, ◌&&◌, ◌+◌, ◌-◌, ◌==◌, ◌∙◌, ◌∷◌, ◌≡◌, ◌≤◌}
 use Rattle.sdd_watch.proofs.Came.{all_came, came_is, more_came, processed_is}
 use Rattle.sdd_watch.proofs.Sourced.{source_there}
 use Rattle.sdd_run.specs.world.Modules.{Represent}
@@ -34,6 +34,16 @@ pub record IsRead (g : Input) (new : Log) (d c : ℕ) (unprocessed : ℕ) (passe
   pub left : unprocessed ≡ length (pipe c (local_of g (D (dm_no d)) new)).unprocessed
   pub passed_is : passed ≡ time_at (passed_to (pipe c (local_of g (D (dm_no d)) new)))
 
+pub left_over : (g : Input) (old new : Log) (d c : ℕ) (w : WatchedPipe) (sites : Sites) (k : Kept State) (unprocessed : ℕ)
+    → w ≡ watched_pipe g old (d, c) → AllRepresent sites g new → IsSiteOf g (D (dm_no d)) → c ≤ length g.catalogue.classes
+    → ((setting : Setting) (own : site.Log) → Represent sites (D w.dm) setting own → LivesD k setting own)
+    → unprocessed ≡ length (pipe_at k.value.pipes w.class.0).unprocessed
+    → unprocessed ≡ length (pipe c (local_of g (D (dm_no d)) new)).unprocessed
+left_over g old new d c w sites k unprocessed is all here few lives u =
+    let class : w.class ≡ class_no c = ap (λ (x : WatchedPipe). x.class) is in
+    let i = digest_at g new d c k (lives_at g new sites w.dm d k (ap (λ (x : WatchedPipe). x.dm) is) all here lives) few in
+    u ∙ ap (λ n. length (pipe_at k.value.pipes n.0).unprocessed) class ∙ ap length i.unprocessed
+
 pub read_pipe : (g : Input) (old new : Log) (d c : ℕ) (w : WatchedPipe) (sites : Sites) (k : Kept State) (unprocessed : ℕ) (passed : Ts)
     → w ≡ watched_pipe g old (d, c) → AllRepresent sites g new → IsSiteOf g (D (dm_no d)) → c ≤ length g.catalogue.classes
     → ((setting : Setting) (own : site.Log) → Represent sites (D w.dm) setting own → LivesD k setting own)
@@ -43,7 +53,7 @@ read_pipe g old new d c w sites k unprocessed passed is all here few lives u p =
     let class : w.class ≡ class_no c = ap (λ (x : WatchedPipe). x.class) is in
     let i = digest_at g new d c k (lives_at g new sites w.dm d k (ap (λ (x : WatchedPipe). x.dm) is) all here lives) few in
     record {
-      left = u ∙ ap (λ n. length (pipe_at k.value.pipes n.0).unprocessed) class ∙ ap length i.unprocessed;
+      left = left_over g old new d c w sites k unprocessed is all here few lives u;
       passed_is = p ∙ ap (λ n. time_at (or_zero (digest.passed_to (pipe_at k.value.pipes n.0)))) class
           ∙ ap time_at (passed_reported (pipe_at k.value.pipes c) (pipe c (local_of g (D (dm_no d)) new)) i);
     }
@@ -100,3 +110,28 @@ seen_after g old new d c w numbers unprocessed count passed moment here good b s
     let news : numbers ≡ drop (length (came g d c old)) (came g d c new) = numbers_came g old new d c w numbers here good b site is all came_are in
     let many = count_processed g old new d c w numbers unprocessed count passed good b few is read news counted in
     e ∙ (λ i. moment_for (is i) (news i) (many i) (read.passed_is i))
+
+-- a pipe to which nothing came, and of which as many messages are unprocessed, is passed over
+
+nothing_in : {A : Type 0} (xs : List A) → is_empty xs ≡ true → xs ≡ []
+nothing_in [] e = refl
+nothing_in (x ∷ xs) e = let no : false ≡ true = e in cc
+
+pub pipe_quiet : (g : Input) (old new : Log) (d c : ℕ) (w : WatchedPipe) (numbers : List ℕ) (unprocessed : ℕ) (quiet : Bool) (here : List Arrived)
+    → IsGood g → IsBetween g old new → IsSiteOf g (D (dm_no d)) → c ≤ length g.catalogue.classes → w ≡ watched_pipe g old (d, c)
+    → here ≡ arrived g old new → unprocessed ≡ length (pipe c (local_of g (D (dm_no d)) new)).unprocessed
+    → numbers ≡ numbers_for w.source (D w.dm) w.class.0 here → quiet ≡ (is_empty numbers && w.unprocessed == unprocessed) → quiet ≡ true
+    → (w ≡ watched_pipe g new (d, c)) × (is_changed_pipe g old new (d, c) ≡ false)
+pipe_quiet g old new d c w numbers unprocessed quiet here good b site few is all left came_are test is_quiet =
+    let both = and_parts (is_empty numbers) (w.unprocessed == unprocessed) (sym test ∙ is_quiet) in
+    let empty : numbers ≡ [] = nothing_in numbers both.0 in
+    let same : w.unprocessed ≡ unprocessed = eqb-true w.unprocessed unprocessed both.1 in
+    let passed : Ts = time_at (passed_to (pipe c (local_of g (D (dm_no d)) new))) in
+    let read : IsRead g new d c unprocessed passed = record { left = left; passed_is = refl } in
+    let count : ℕ = (w.unprocessed + length numbers) - unprocessed in
+    let none : count ≡ 0 = (λ i. (same i + length (empty i)) - unprocessed) ∙ omega arith in
+    let seen : moment_for w numbers count passed ≡ pipe_after g old new (d, c) =
+    seen_after g old new d c w numbers unprocessed count passed (moment_for w numbers count passed) here good b site few is all read came_are refl refl in (
+      pipe_kept g old new d c w w unprocessed passed is read (ap (with_unprocessed w) same),
+      ap (λ (m : PipeMoment). not (is_empty m.came && m.processed == 0)) (sym seen) ∙ (λ i. not (is_empty (empty i) && none i == 0)),
+    )

@@ -8,7 +8,7 @@ Ends more log = (later : History) × (history (more ++ log) ≡ history log ++ l
 further : (more log : Log) (x : History) (all : History) → Ends more log → all ≡ history (more ++ log) ++ x → (later : History) × (all ≡ history log ++ later)
 further more log x all e is = (e.0 ++ x, is ∙ ap (λ h. h ++ x) e.1 ∙ append_assoc (history log) e.0 x)
 
-ends : (more log : Log) → Ends more log
+pub ends : (more log : Log) → Ends more log
 ends [] log = ([], sym (append-nil (history log)))
 ends (Submitted at n ∷ more) log = further more log _ (history (Submitted at n ∷ more ++ log)) (ends more log) refl
 ends (Notes ∷ more) log = further more log _ (history (Notes ∷ more ++ log)) (ends more log) refl

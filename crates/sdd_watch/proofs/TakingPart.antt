@@ -18,7 +18,7 @@ arrived_at old new at (l ∷ ls) =
       | false ↦ ap (λ r. same_site l.1 at || r) i
     ]
 
-reached_is : (g : Input) (old new : Log) (at : Site) (known : List Arrived) (b : Bool) → b ≡ list_any (λ (one : Arrived). same_site one.to at) known
+pub reached_is : (g : Input) (old new : Log) (at : Site) (known : List Arrived) (b : Bool) → b ≡ list_any (λ (one : Arrived). same_site one.to at) known
     → known ≡ arrived g old new → b ≡ is_reached g old new at
 reached_is g old new at known b is same = is ∙ ap (list_any (is_to at)) same ∙ arrived_at old new at (all_links g)
 
@@ -52,3 +52,16 @@ one_taken p at old more e add = add ∙ ap (λ b. old ++ (if b then at ∷ [] el
 
 pub none_taken : (p : Site → Bool) (at : Site) (old : List Site) → p at ≡ false → old ≡ old ++ filter p (at ∷ [])
 none_taken p at old e = sym (append-nil old) ∙ ap (λ b. old ++ (if b then at ∷ [] else [])) (sym e)
+
+-- at an event of a link at which nothing is handed over no site takes part
+pub none_takes : (g : Input) (old new : Log) (known : List Arrived) (e : Event) (sites : List Site) → known ≡ arrived g old new → known ≡ []
+    → e ≡ last_event new → ((found : Found) (at : Site) → concerns g new e found at ≡ false) → filter (takes_part g old new) sites ≡ []
+none_takes g old new known e [] same empty is none = refl
+none_takes g old new known e (at ∷ sites) same empty is none =
+    let unreached : is_reached g old new at ≡ false =
+    sym (reached_is g old new at known (list_any (is_to at) known) refl same) ∙ ap (list_any (is_to at)) empty in
+    let aside : takes_part g old new at ≡ false =
+    (λ i. unreached i || concerns g new (last_event new) (found_by (last_event new) old new) at)
+    ∙ ap (λ x. concerns g new x (found_by x old new) at) (sym is) ∙ none (found_by e old new) at in
+    ap (λ b. if b then at ∷ filter (takes_part g old new) sites else filter (takes_part g old new) sites) aside
+    ∙ none_takes g old new known e sites same empty is none

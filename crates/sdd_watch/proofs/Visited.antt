@@ -1,6 +1,6 @@
 -- A loop that changes each member of a list, each of which stands for a place: those before the place at hand are as they shall
 -- be, and the others still as they were.
-use Rattle.sdd_watch.proofs.All.{Bool, List, Option, Some, [], ap, arith, cond, cons_option, drop, filter, filter-append, filter_map, filter_map-append, get_or, length, map, map-append, refl, slice_get, slice_set, subst, suc, sym, take, zero, ℕ, ◌++◌, ◌<◌, ◌∙◌, ◌∷◌, ◌≡◌, ◌≤◌}
+use Rattle.sdd_watch.proofs.All.{Bool, List, Option, Some, [], ap, append-nil, append_assoc, arith, cond, drop, filter, filter-append, filter_map, filter_map-append, flat_map, flat_map-append, get_or, length, map, map-append, refl, slice_get, slice_set, subst, suc, sym, take, zero, ℕ, ◌++◌, ◌<◌, ◌∙◌, ◌∷◌, ◌≡◌, ◌≤◌}
 
 -- as they are when so many are changed
 abbrev pub changed_to : {S W : Type 0} → (S → W) → (S → W) → ℕ → List S → List W
@@ -57,17 +57,23 @@ mapped_last f xs x all made now y e push is more =
 
 -- of those places alone that pass a test
 
-filtered_one : {A B : Type 0} (t : A → Bool) (f : A → B) (x : A) → map f (filter t (x ∷ [])) ≡ cond (t x) (f x ∷ []) []
+pub filtered_one : {A B : Type 0} (t : A → Bool) (f : A → B) (x : A) → map f (filter t (x ∷ [])) ≡ cond (t x) (f x ∷ []) []
 filtered_one t f x = grind arith
 
-pub filtered_last : {A B : Type 0} (t : A → Bool) (f : A → B) (xs : List A) (x : A) (all : List A) (made now ys : List B)
-    → made ≡ map f (filter t xs) → now ≡ made ++ ys → ys ≡ cond (t x) (f x ∷ []) [] → all ≡ xs ++ x ∷ [] → now ≡ map f (filter t all)
-filtered_last t f xs x all made now ys e push is more =
-    push ∙ (λ i. e i ++ is i) ∙ ap (λ zs. map f (filter t xs) ++ zs) (sym (filtered_one t f x))
-    ∙ sym (map-append f (filter t xs) (filter t (x ∷ [])))
-    ∙ ap (map f) (sym (filter-append t xs (x ∷ []))) ∙ ap (λ zs. map f (filter t zs)) (sym more)
+-- in groups
+pub group_more : {A B : Type 0} (h : A → List B) (xs : List A) (x : A) (all : List A) → all ≡ xs ++ x ∷ [] → flat_map h all ≡ flat_map h xs ++ h x
+group_more h xs x all more =
+    ap (flat_map h) more ∙ flat_map-append h xs (x ∷ []) ∙ ap (λ ys. flat_map h xs ++ ys) (append-nil (h x))
 
-pub picked_last : {A B : Type 0} (f : A → Option B) (xs : List A) (x : A) (all : List A) (made now : List B) (y : Option B)
-    → made ≡ filter_map f xs → now ≡ made ++ cons_option y [] → y ≡ f x → all ≡ xs ++ x ∷ [] → now ≡ filter_map f all
-picked_last f xs x all made now y e push is more =
-    push ∙ (λ i. e i ++ cons_option (is i) []) ∙ sym (filter_map-append f xs (x ∷ [])) ∙ ap (filter_map f) (sym more)
+-- those of further members that pass a test, after those of others
+pub filtered_join : {A B : Type 0} (t : A → Bool) (f : A → B) (xs ys : List A) (first mid last : List B) → mid ≡ first ++ map f (filter t xs)
+    → last ≡ mid ++ map f (filter t ys) → last ≡ first ++ map f (filter t (xs ++ ys))
+filtered_join t f xs ys first mid last e h =
+    h ∙ ap (λ zs. zs ++ map f (filter t ys)) e ∙ append_assoc first (map f (filter t xs)) (map f (filter t ys))
+    ∙ ap (λ zs. first ++ zs) (sym (map-append f (filter t xs) (filter t ys)) ∙ ap (map f) (sym (filter-append t xs ys)))
+
+pub picked_join : {A B : Type 0} (f : A → Option B) (xs ys : List A) (first mid last : List B) → mid ≡ first ++ filter_map f xs
+    → last ≡ mid ++ filter_map f ys → last ≡ first ++ filter_map f (xs ++ ys)
+picked_join f xs ys first mid last e h =
+    h ∙ ap (λ zs. zs ++ filter_map f ys) e ∙ append_assoc first (filter_map f xs) (filter_map f ys)
+    ∙ ap (λ zs. first ++ zs) (sym (filter_map-append f xs ys))

@@ -5,6 +5,7 @@ use Rattle.std.specs.List.{flat_map, list_any}
 use Rattle.sdd_obligations.specs.All.{Ack, Apply, Change, Commit, D, Deliver, DmNo, Down, Event, Input, History, Log, Lose, Mark, Message, Msg, Packet, Rec, Redeclare, Redeclares, Repeat, Resend, Round, Row, Settle, Site, Submit, T, Tick, Up, all_links, dated, delivered, nth_era, handed, history, is_down, is_empty, left, link_of, local_of, marks, packet_at, redeclares, same_site, setting_of, sites, txn_at, TxnNo}
 use Rattle.sdd_obligations.specs.copy.Contents.{Dated, latest, of_fragment}
 use Rattle.sdd_obligations.specs.invariants.Steps.{changes_at}
+use Rattle.sdd_obligations.specs.history.declared.record.Rec.TheVariants.{Submit as Submission}
 use Rattle.sdd_obligations.specs.logs.Due.{home_of as class_site}
 use Rattle.sdd_obligations.specs.logs.Marks.{from_event}
 use Rattle.sdd_obligations.specs.net.Links.{unacked}
@@ -147,6 +148,18 @@ with_row g log rows x = if list_any (is_of_item x) rows then rows else rows ++ r
 
 abbrev pub rows_of : Input → Log → Log → List RowDelta
 rows_of g old new = fold (with_row g new) [] (applied g old new)
+
+-- queues
+
+-- whether a record is of a transaction that enters a queue or leaves it
+abbrev pub is_of_queue : ℕ × Rec → Bool
+is_of_queue (event, Submission txn) = true
+is_of_queue (event, Commit txn attempt reply changes values rows) = true
+is_of_queue _ = false
+
+-- whether the event made such a record
+abbrev pub have_moved : Log → Log → Bool
+have_moved old new = list_any is_of_queue (drop (length (history old)) (history new))
 
 -- sites
 

@@ -3,6 +3,7 @@ pub mod Happens
 pub mod Keeping
 pub mod Looking
 pub mod Moments
+pub mod Reaching
 pub mod States
 pub mod ScheduleSoFar
 pub mod Text

@@ -1,17 +1,20 @@
 -- What a look at the parts of a world finds, and what of it is kept, by what was kept before.
-use Rattle.std.specs.Prelude.{ℕ, ◌+◌, ◌==◌, ◌&&◌, Bool, false, if◌then◌else◌, List, [], ◌++◌, filter_map, find, length, map, Option, Some, None}
+use Rattle.std.specs.Prelude.{ℕ, ◌+◌, ◌≡◌, ◌==◌, ◌&&◌, Bool, false, if◌then◌else◌, List, [], ◌++◌, filter, filter_map, find, length, map, Option, Some, None}
 use Rattle.std.specs.List.{list_any}
-use Rattle.sdd_obligations.specs.All.{D, Msg, Packet, Queued, Site, U, class_no}
+use Rattle.sdd_obligations.specs.All.{D, Input, Log, Msg, Packet, Queued, Site, U, class_no}
 use Rattle.sdd_obligations.specs.attempt.Queues.{txn_of}
 use Rattle.sdd_obligations.specs.tm.State.{ClassState}
 use Rattle.sdd_inside.specs.declared.moment.LinkMoment.{LinkMoment}
+use Rattle.sdd_inside.specs.declared.moment.PipeMoment.{PipeMoment}
 use Rattle.sdd_inside.specs.declared.moment.QueueMoment.{QueueMoment}
 use Rattle.sdd_watch.specs.Awaiting.{behind, number_for, purposed_above, up_to}
-use Rattle.sdd_watch.specs.Watching.{is_on}
+use Rattle.sdd_watch.specs.Watching.{arrived_on, is_changed_link, is_changed_pipe, is_on, link_after, link_before, pipe_after, pipe_before}
+use Rattle.sdd_watch.specs.declared.both.Both.{Both}
 use Rattle.sdd_watch.specs.declared.waiting.Purpose.{Purpose}
 use Rattle.sdd_watch.specs.declared.waiting.Purpose.TheVariants.{Applied, Piped}
 use Rattle.sdd_watch.specs.declared.watched_link.Arrived.{Arrived}
 use Rattle.sdd_watch.specs.declared.watched_link.LinkSeen.{LinkSeen}
+use Rattle.sdd_watch.specs.declared.watched_link.OnLinks.{OnLinks}
 use Rattle.sdd_watch.specs.declared.watched_link.WatchedLink.{WatchedLink}
 
 -- links: after the packets that stayed these were put, and so many messages are put and handed over in all
@@ -38,6 +41,17 @@ seen_with news sent handed l =
       after = moment_with l news sent handed;
       arrived = arrived_with l handed (all_waiting news l);
     }
+
+-- after what was seen before, what is seen of these links
+pub record AreSeen (old new : Log) (ls : List (Site × Site)) (first all : OnLinks) : Type 0 where
+  pub before_are : all.moments.before.items ≡ first.moments.before.items ++ map (link_before old) (filter (is_changed_link old new) ls)
+  pub after_are : all.moments.after.items ≡ first.moments.after.items ++ map (link_after old new) (filter (is_changed_link old new) ls)
+  pub arrived_are : all.arrived.items ≡ first.arrived.items ++ filter_map (arrived_on old new) ls
+
+-- of these pipes
+pub record ArePipesSeen (g : Input) (old new : Log) (ps : List (ℕ × ℕ)) (first all : Both PipeMoment) : Type 0 where
+  pub before_are : all.before.items ≡ first.before.items ++ map (pipe_before g old new) (filter (is_changed_pipe g old new) ps)
+  pub after_are : all.after.items ≡ first.after.items ++ map (pipe_after g old new) (filter (is_changed_pipe g old new) ps)
 
 -- queues, of the module for undeclared transactions and of a class of a transaction module
 

@@ -1,10 +1,10 @@
 -- What is kept between two events of what stood where, as the log gives it when the last event was over.
-use Rattle.std.specs.Prelude.{ℕ, ◌-◌, ◌≡◌, ◌==◌, ◌&&◌, Bool, false, not, if◌then◌else◌, List, [], ◌∷◌, ◌++◌, drop, filter, filter_map, is_some, length, map, option_map, Option, Some, None}
+use Rattle.std.specs.Prelude.{ℕ, ◌-◌, ◌≡◌, ◌==◌, ◌&&◌, Bool, cond, false, not, if◌then◌else◌, List, [], ◌∷◌, ◌++◌, drop, filter, filter_map, is_some, length, map, option_map, Option, Some, None}
 use Rattle.std.specs.BTreeMap.{get}
 use Rattle.std.specs.BTreeSet.{contains}
 use Rattle.std.specs.List.{list_any, position}
 use Rattle.std.specs.Ordering.{nat_cmp}
-use Rattle.sdd_obligations.specs.All.{D, Deliver, Done, Down, Entry, Event, History, Input, IsLinkOf, IsPossible, Log, Lose, Mark, Message, Msg, Packet, Redeclare, Redeclares, Repeat, Resend, Rests, Site, U, Up, all_links, class_no, dm_no, handed, history, is_down, is_empty, link_of, local_of, marks, packet_at, pipe, same_site, sent, sites, time_at}
+use Rattle.sdd_obligations.specs.All.{D, Deliver, Done, Down, Entry, Event, History, Input, IsLinkOf, IsPossible, Log, Lose, Mark, Message, Msg, Packet, Redeclare, Redeclares, Repeat, Resend, Rests, Site, U, Up, all_links, are_linked, class_no, dm_no, handed, history, is_down, is_empty, link_of, local_of, marks, numbers_to, packet_at, pipe, same_site, sent, sites, time_at}
 use Rattle.sdd_obligations.specs.net.Links.{unacked}
 use Rattle.sdd_obligations.specs.serial_orders.Finding.{pair_cmp}
 use Rattle.sdd_inside.specs.Differences.{is_of_link, takes_one}
@@ -17,7 +17,7 @@ use Rattle.sdd_run.specs.world.Represents.{Calm}
 use Rattle.sdd_run.specs.world.declared.world.World.{World}
 use Rattle.sdd_watch.specs.Awaiting.{purposed, waiting_on}
 use Rattle.sdd_watch.specs.Happens.{found_by, last_event, round_at, scheduled_at, taken}
-use Rattle.sdd_watch.specs.Moments.{all_pipes, came, handed_on, passed_to, queues_of, source}
+use Rattle.sdd_watch.specs.Moments.{all_pipes, came, handed_on, passed_to, pipes_at_module, queues_of, source}
 use Rattle.sdd_watch.specs.declared.commits.Commits.{Commits}
 use Rattle.sdd_watch.specs.declared.dones.Dones.{Dones}
 use Rattle.sdd_watch.specs.declared.foreseen.Foreseen.{Foreseen}
@@ -101,6 +101,17 @@ watched_link log l =
       waiting = waiting_on l.0 l.1 log;
     }
 
+-- the sites of the network, the links from one of them, in their order, and what is kept of these
+
+abbrev pub all_sites : Input → List Site
+all_sites g = sites g.catalogue.tms g.catalogue.dms
+
+abbrev pub links_from : Input → Site → List (Site × Site)
+links_from g a = filter_map (λ b. cond (are_linked a b) (Some (a, b)) None) (all_sites g)
+
+abbrev pub watched_links : Input → Log → Site → Site × List WatchedLink
+watched_links g log a = (a, map (watched_link log) (links_from g a))
+
 -- whether the event of the second log took a packet off the flight of a link, and how many packets of that before it are left
 
 abbrev pub is_taken : Event → Found → Site × Site → Bool
@@ -174,6 +185,10 @@ watched_pipe g log p =
       unprocessed = length (pipe p.1 (local_of g (D (dm_no p.0)) log)).unprocessed;
     }
 
+-- those of a data module
+abbrev pub watched_pipes : Input → Log → ℕ → Site × List WatchedPipe
+watched_pipes g log d = (D (dm_no d), map (watched_pipe g log) (pipes_at_module g d))
+
 -- a moment of a pipe is cut likewise: it has nothing before the event, and then what came and how much was processed
 abbrev pub pipe_before : Input → Log → Log → ℕ × ℕ → PipeMoment
 pipe_before g old new p =
@@ -227,9 +242,9 @@ pub record Knows (g : Input) (log : Log) (w : Watch) : Type 0 where
 -- all of it
 pub record Watches (g : Input) (log : Log) (w : Watch) : Type 0 where
   pub sites : w.sites.items ≡ sites g.catalogue.tms g.catalogue.dms
-  pub links : w.links.items ≡ map (watched_link log) (all_links g)
+  pub links : w.links.items ≡ map (watched_links g log) (all_sites g)
   pub queues : w.queues.items ≡ queues_of g log
-  pub pipes : w.pipes.items ≡ map (watched_pipe g log) (all_pipes g)
+  pub pipes : w.pipes.items ≡ map (watched_pipes g log) (numbers_to g.catalogue.dms)
   pub records : w.records ≡ length (history log)
   pub commits : AreCommits (history log) w.commits
   pub dones : AreDones g log w.dones

@@ -110,7 +110,8 @@ fn text_with_tables<'a>(
 /// The text of what happens inside the run of a workload: the first line, and one line for each event
 /// that has a number.
 ///
-/// Costs what its events cost, for each of them a look at each link, queue and pipe; and the text.
+/// Costs what its events cost, for each of them a look at the links and pipes of the sites that it
+/// concerns; for each submission and commit a look at all queues; and the text.
 ///
 /// # Errors
 ///

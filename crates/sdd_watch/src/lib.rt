@@ -5,10 +5,14 @@
 //! one only (`law_one_inside`).
 //!
 //! `Watch` keeps what stood where when the last event was over, by numbers where a list is long; what
-//! an event changed is read from the world after it. So an event costs what it changes, the queues,
-//! and a look at each link and pipe, however much stands in them.
+//! an event changed is read from the world after it. Looked at are the links of the sites that the
+//! event names or at which it lets something be done, the pipes of the data modules to which messages
+//! were handed, and the queues, where a transaction entered one or left it: by the log all others stay
+//! as they are (`proofs/LinksKept.antt`, `PipesKept.antt`, `QueuesKept.antt`). So an event costs what it
+//! changes, a step for each site, and a look at the links and pipes of one or two sites.
 #![tactic(auto)]
 
+mod at_site;
 mod both;
 mod commits;
 mod dones;
@@ -17,6 +21,7 @@ mod inside;
 mod law;
 mod places;
 mod queues;
+mod reach;
 mod rows;
 mod schedule;
 mod states;

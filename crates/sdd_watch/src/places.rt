@@ -1,7 +1,6 @@
-//! The sites of a network and its links, in their orders.
-ghost use Rattle.std.specs.Prelude.{◌≡◌, ◌++◌, ◌≤◌, cond, Some, None, IfOk, OnOk};
-ghost use Rattle.std.specs.List.{filter_map};
-ghost use Rattle.sdd_obligations.specs.All.{MAX_DMS, MAX_TMS, are_linked as are_linked_by, links, same_site, sites};
+//! The sites of a network, in their order, and between which of them links are.
+ghost use Rattle.std.specs.Prelude.{◌≡◌, ◌≤◌, IfOk};
+ghost use Rattle.sdd_obligations.specs.All.{MAX_DMS, MAX_TMS, are_linked as are_linked_by, same_site, sites};
 
 use sdd_obligations::{DmNo, NoMemory, Site, TmNo};
 use std::alloc::Global;
@@ -35,7 +34,7 @@ pub(crate) fn all_sites(alloc: Global, tms: u32, dms: u32) -> Result<Vec<Site>, 
 }
 
 /// Whether there is a link between sites of these kinds.
-fn are_linked(a: Site, b: Site) -> bool
+pub(crate) fn are_linked(a: Site, b: Site) -> bool
     ensures { result ≡ are_linked_by a b }
 {
     match (a, b) {
@@ -44,34 +43,4 @@ fn are_linked(a: Site, b: Site) -> bool
         (Site::D(_), Site::U | Site::T(_)) => true,
         _ => false,
     }
-}
-
-/// Adds the links from one site to those among the sites.
-fn add_links(links: &mut Vec<(Site, Site)>, from: Site, sites: &[Site]) -> Result<(), NoMemory>
-    ensures { OnOk result (
-        links.new.items
-        ≡ links.old.items
-        ++ filter_map (λ to. cond (are_linked_by from to) (Some (from, to)) None) sites.now) }
-{
-    for to in sites {
-        if are_linked(from, *to) {
-            links.push((from, *to))?;
-        }
-    }
-    Ok(())
-}
-
-/// The links of a network, by the order of the site they come from and then of the site they go to.
-#[tactic(auto, using(crate::proofs::Loops::joined_more))]
-pub(crate) fn all_links(alloc: Global, tms: u32, dms: u32) -> Result<Vec<(Site, Site)>, NoMemory>
-    requires tms { tms ≤ MAX_TMS }
-    requires dms { dms ≤ MAX_DMS }
-    ensures { IfOk result (λ all. all.items ≡ links tms dms) }
-{
-    let sites = all_sites(alloc, tms, dms)?;
-    let mut links = Vec::new(alloc);
-    for from in &sites {
-        add_links(&mut links, *from, &sites)?;
-    }
-    Ok(links)
 }

@@ -1,12 +1,14 @@
 //! The queues of classes.
-ghost use Rattle.std.specs.Prelude.{◌≡◌, ◌++◌, ◌∷◌, [], ℕ, map, IfOk, OnOk};
+ghost use Rattle.std.specs.Prelude.{◌≡◌, ◌++◌, ◌∷◌, [], ℕ, drop, map, IfOk, OnOk};
+ghost use Rattle.std.specs.List.{list_any};
 ghost use Rattle.sdd_obligations.specs.All.{Input, IsSiteOf, Log, T};
 ghost use Rattle.sdd_run.specs.world.Represents.{Calm};
 ghost use Rattle.sdd_watch.specs.Looking.{queue_in, queue_of};
+ghost use Rattle.sdd_watch.specs.Happens.{is_of_queue};
 ghost use Rattle.sdd_watch.specs.Moments.{queues_at, queues_of};
 
 use sdd_inside::QueueMoment;
-use sdd_obligations::{ClassRun, Line, Listed, NoMemory, TmNo};
+use sdd_obligations::{ClassRun, Line, Listed, NoMemory, Rec, TmNo};
 use sdd_run::World;
 use std::alloc::Global;
 
@@ -55,4 +57,34 @@ pub(crate) fn all_queues(alloc: Global, world: &World<'_>) -> Result<Vec<QueueMo
         add_queues_at(world, TmNo(number as u8), &mut queues)?;
     }
     Ok(queues)
+}
+
+/// Whether a record is of a transaction that entered a queue or left it.
+fn is_of_queue(made: &(u32, Rec)) -> bool
+    ensures { result ≡ is_of_queue made.now }
+{
+    match &made.1 {
+        Rec::Submit { .. } => true,
+        Rec::Commit { .. } => true,
+        _ => false,
+    }
+}
+
+/// Whether one of the records from a place on is of a transaction that entered a queue or left it.
+pub(crate) fn have_moved(records: &[(u32, Rec)], from: usize) -> bool
+    ensures { result ≡ list_any is_of_queue (drop from records.now) }
+{
+    tail(records, from).iter().any(|made| is_of_queue(made))
+}
+
+/// The records from a place on.
+fn tail(records: &[(u32, Rec)], from: usize) -> &[(u32, Rec)]
+    ensures { result.now ≡ drop from records.now }
+{
+    if from < records.len() {
+        let (_, rest) = records.split_at(from);
+        rest
+    } else {
+        &[]
+    }
 }

@@ -11,7 +11,9 @@ ghost use Rattle.sdd_obligations.specs.umod.Represents as u_represents;
 ghost use Rattle.sdd_run.specs.world.Represents.{Calm};
 ghost use Rattle.sdd_watch.specs.Keeping.{IsLineInOrder, active_in, active_of, head_in, question_by, questions_in};
 ghost use Rattle.sdd_watch.specs.States.{data_sites, lacks_in, phase_by, report_head, reported_dm, reported_tm, reported_u, stage_at, stage_by, state_of, unapplied_last, unapplied_of};
+ghost use Rattle.sdd_watch.specs.Watching.{AreDones};
 
+use crate::dones::Dones;
 use sdd_inside::{Active, DmState, Head, Phase, Question, SiteState, Stage, TmState, UState};
 use sdd_obligations::{
     Answer, Asked, ClassNo, ClassNos, ClassRun, Conds, DataModule, DmNo, Line, Listed, NoMemory,
@@ -285,20 +287,36 @@ fn dm_state(
     })
 }
 
-/// How a site stands, where these data modules haven't said that they applied what U committed last.
+/// The data modules that haven't said that they applied what U committed last.
+fn missing_applies(alloc: Global, world: &World<'_>, dones: &Dones) -> Result<Vec<DmNo>, NoMemory>
+    requires { (g : Input) × (log : Log) × Calm world.now g log }
+    ensures { IfOk result (λ missing. (g : Input) (log : Log) → Calm world.now g log
+        → AreDones g log dones.now → missing.items ≡ unapplied_of g log) }
+{
+    let whole = world.whole();
+    whole.law_is_sound();
+    let committed = world.sites().u_module().last_commit();
+    let missing = dones.missing_dms(alloc, committed, whole.dms())?;
+    Ok(missing)
+}
+
+/// How a site stands, where these DONEs were handed to U.
 pub(crate) fn state(
     alloc: Global,
     world: &World<'_>,
     at: Site,
-    unapplied: &[DmNo],
+    dones: &Dones,
 ) -> Result<SiteState, NoMemory>
     requires { (g : Input) × (log : Log) × IsSiteOf g at × Calm world.now g log }
     ensures { IfOk result (λ state. (g : Input) (log : Log) → IsSiteOf g at → Calm world.now g log
-        → unapplied.now ≡ unapplied_of g log → state ≡ state_of g log at) }
+        → AreDones g log dones.now → state ≡ state_of g log at) }
 {
     let sites = world.sites();
     match at {
-        Site::U => Ok(SiteState::U(u_state(alloc, sites.u_module(), unapplied)?)),
+        Site::U => {
+            let missing = missing_applies(alloc, world, dones)?;
+            Ok(SiteState::U(u_state(alloc, sites.u_module(), missing.as_slice())?))
+        }
         Site::T(tm) => Ok(SiteState::T(tm_state(alloc, tm, sites.txn_module(tm))?)),
         Site::D(dm) => {
             let down = world.is_down(dm);

@@ -1,7 +1,7 @@
 //! Which sites take part in an event, and how they stand.
-ghost use Rattle.std.specs.Prelude.{◌≡◌, ◌++◌, ◌∷◌, ◌&&◌, [], All, filter, map, IfOk, OnOk};
+ghost use Rattle.std.specs.Prelude.{◌≡◌, ◌++◌, ◌∷◌, ◌&&◌, [], All, false, filter, map, true, IfOk, OnOk};
 ghost use Rattle.std.specs.List.{list_any};
-ghost use Rattle.sdd_obligations.specs.All.{Input, IsSiteOf, Log, Redeclare, nth_era, redeclares, same_site, txn_at};
+ghost use Rattle.sdd_obligations.specs.All.{Input, IsSiteOf, Log, Redeclare, Site as Place, nth_era, redeclares, same_site, txn_at};
 ghost use Rattle.sdd_obligations.specs.logs.Due.{home_of as class_site};
 ghost use Rattle.sdd_inside.specs.declared.delta.Found.{Found as Finding};
 ghost use Rattle.sdd_run.specs.world.Represents.{Calm};
@@ -28,7 +28,7 @@ fn is_something(found: &Found) -> bool
 }
 
 /// The site of a transaction's class, by its number and by the class list in force.
-fn home_of(world: &World<'_>, number: TxnNo) -> Site
+pub(crate) fn home_of(world: &World<'_>, number: TxnNo) -> Site
     requires { (g : Input) × (log : Log) × Calm world.now g log }
     ensures { (g : Input) (log : Log) → Calm world.now g log → result
         ≡ class_site (nth_era g (redeclares log)).catalogue (txn_at g number.0) }
@@ -74,7 +74,7 @@ fn concerns(world: &World<'_>, event: &Event, found: &Found, at: Site) -> bool
 }
 
 /// Whether a message was handed to a site.
-fn is_reached(arrived: &[Arrived], at: Site) -> bool
+pub(crate) fn is_reached(arrived: &[Arrived], at: Site) -> bool
     ensures { result ≡ list_any (λ one. same_site one.to at) arrived.now }
 {
     arrived.iter().any(|one| is_same(one.to, at))
@@ -121,6 +121,20 @@ fn add_busy(
     Ok(())
 }
 
+/// Whether an event is one on a link: by itself it lets no site take part.
+fn is_on_link(event: &Event) -> bool
+    ensures { result ≡ true → (g : Input) (log : Log) (found : Finding) (at : Place)
+        → concerns g log event.now found at ≡ false }
+{
+    match event {
+        Event::Deliver { .. } => true,
+        Event::Lose { .. } => true,
+        Event::Repeat { .. } => true,
+        Event::Resend { .. } => true,
+        _ => false,
+    }
+}
+
 /// The sites that take part in an event that is carried out, in their order.
 pub(crate) fn busy(
     alloc: Global,
@@ -137,6 +151,9 @@ pub(crate) fn busy(
         → busy.items ≡ filter (takes_part g old new) sites.now) }
 {
     let mut busy = Vec::new(alloc);
+    if arrived.is_empty() && is_on_link(event) {
+        return Ok(busy);
+    }
     for at in sites {
         add_busy(world, event, found, arrived, *at, &mut busy)?;
     }
@@ -156,13 +173,9 @@ pub(crate) fn states(
         → AreDones g log dones.now → All (IsSiteOf g) busy.now
         → states.items ≡ map (state_of g log) busy.now) }
 {
-    let whole = world.whole();
-    whole.law_is_sound();
-    let committed = world.sites().u_module().last_commit();
-    let unapplied = dones.missing_dms(alloc, committed, whole.dms())?;
     let mut states = Vec::new(alloc);
     for at in busy {
-        states.push(state(alloc, world, *at, unapplied.as_slice())?)?;
+        states.push(state(alloc, world, *at, dones)?)?;
     }
     Ok(states)
 }

@@ -1,17 +1,18 @@
 //! What stood where when an event was over, and what the next one changed.
-ghost use Rattle.std.specs.Prelude.{◌≡◌, [], length, map, IfOk, OnOk};
-ghost use Rattle.sdd_obligations.specs.All.{Input, Log, history};
+ghost use Rattle.std.specs.Prelude.{◌≡◌, ◌++◌, ◌∷◌, [], cond, length, map, IfOk, OnOk};
+ghost use Rattle.sdd_obligations.specs.All.{Input, Log, are_linked as are_linked_by, history};
 ghost use Rattle.sdd_run.specs.world.Represents.{Calm};
 ghost use Rattle.sdd_watch.specs.Happens.{happened_at, rows_of};
 ghost use Rattle.sdd_watch.specs.Moments.{queues_of};
 ghost use Rattle.sdd_watch.specs.Text.{change};
-ghost use Rattle.sdd_watch.specs.Watching.{AreCommits, IsBetween, IsOver, IsTurn, Knows, Watches, arrived as arrived_between, watched_link};
+ghost use Rattle.sdd_watch.specs.Watching.{AreCommits, IsBetween, IsOver, IsTurn, Knows, Watches, all_sites, arrived as arrived_between, watched_link, watched_links};
 
+use crate::at_site::AtSite;
 use crate::both::Both;
 use crate::commits::Commits;
 use crate::dones::Dones;
-use crate::places::{all_links, all_sites};
-use crate::queues::all_queues;
+use crate::places::{all_sites, are_linked};
+use crate::queues::{all_queues, have_moved};
 use crate::rows::rows_from;
 use crate::taking_part::{busy, states};
 use crate::watched_link::{Arrived, OnLinks, WatchedLink, look_at_links};
@@ -39,24 +40,60 @@ pub(crate) struct Turn {
 pub(crate) struct Watch {
     alloc: Global,
     sites: Vec<Site>,
-    links: Vec<WatchedLink>,
+    links: Vec<AtSite<WatchedLink>>,
     queues: Vec<QueueMoment>,
-    pipes: Vec<WatchedPipe>,
+    pipes: Vec<AtSite<WatchedPipe>>,
     /// How many records were made.
     records: usize,
     commits: Commits,
     dones: Dones,
 }
 
-/// These links, on which nothing was done.
-fn first_links(alloc: Global, links: &[(Site, Site)]) -> Result<Vec<WatchedLink>, NoMemory>
-    ensures { IfOk result (λ watched. watched.items ≡ map (watched_link []) links.now) }
+/// Adds a link on which nothing was done, where there is one between these sites.
+fn add_link(
+    alloc: Global,
+    from: Site,
+    to: Site,
+    links: &mut Vec<WatchedLink>,
+) -> Result<(), NoMemory>
+    ensures { OnOk result (links.new.items ≡ links.old.items
+        ++ cond (are_linked_by from to) (watched_link [] (from, to) ∷ []) []) }
 {
-    let mut watched = Vec::new(alloc);
-    for link in links {
-        watched.push(WatchedLink::new(alloc, link.0, link.1))?;
+    if are_linked(from, to) {
+        links.push(WatchedLink::new(alloc, from, to))?;
     }
-    Ok(watched)
+    Ok(())
+}
+
+/// The links from a site to those among the sites, on which nothing was done.
+fn first_links_from(
+    alloc: Global,
+    from: Site,
+    sites: &[Site],
+) -> Result<AtSite<WatchedLink>, NoMemory>
+    ensures { IfOk result (λ links. (g : Input) → sites.now ≡ all_sites g
+        → links ≡ watched_links g [] from) }
+{
+    let mut links = Vec::new(alloc);
+    for to in sites {
+        add_link(alloc, from, *to, &mut links)?;
+    }
+    Ok(AtSite {
+        at: from,
+        parts: links,
+    })
+}
+
+/// The links between these sites, on which nothing was done.
+fn first_links(alloc: Global, sites: &[Site]) -> Result<Vec<AtSite<WatchedLink>>, NoMemory>
+    ensures { IfOk result (λ links. (g : Input) → sites.now ≡ all_sites g
+        → links.items ≡ map (watched_links g []) (all_sites g)) }
+{
+    let mut links = Vec::new(alloc);
+    for from in sites {
+        links.push(first_links_from(alloc, *from, sites)?)?;
+    }
+    Ok(links)
 }
 
 /// The moments before and after an event, of these parts.
@@ -104,8 +141,7 @@ impl Watch {
         let tms = catalogue.tms();
         let dms = catalogue.dms();
         let sites = all_sites(alloc, tms, dms)?;
-        let all = all_links(alloc, tms, dms)?;
-        let links = first_links(alloc, all.as_slice())?;
+        let links = first_links(alloc, sites.as_slice())?;
         let queues = all_queues(alloc, world)?;
         let pipes = first_pipes(alloc, catalogue)?;
         Ok(Watch {
@@ -120,19 +156,35 @@ impl Watch {
         })
     }
 
-    /// The queues before an event, which are taken from the watch, and after it.
-    fn queues(&mut self, world: &World<'_>) -> Result<Both<QueueMoment>, NoMemory>
+    /// The queues before an event, which are taken from the watch, and after it; none, where no
+    /// transaction entered a queue or left one.
+    fn queues(&mut self, world: &World<'_>, moved: bool) -> Result<Both<QueueMoment>, NoMemory>
         requires { (g : Input) × (log : Log) × Calm world.now g log }
-        ensures before { IfOk result (λ parts. parts.before ≡ self.old.queues) }
+        ensures before { IfOk result (λ parts.
+            parts.before.items ≡ cond moved self.old.queues.items []) }
         ensures after { IfOk result (λ parts. (g : Input) (log : Log) → Calm world.now g log
-            → parts.after.items ≡ queues_of g log) }
+            → parts.after.items ≡ cond moved (queues_of g log) []) }
+        ensures kept { OnOk result (self.new.queues.items ≡ cond moved [] self.old.queues.items) }
         ensures others { OnOk result (self.new ≡ record self.old { queues = self.new.queues }) }
     {
+        if !moved {
+            return Ok(Both::new(self.alloc));
+        }
         let after = all_queues(self.alloc, world)?;
         Ok(Both {
             before: mem::replace(&mut self.queues, Vec::new(self.alloc)),
             after,
         })
+    }
+
+    /// Keeps the queues after an event, where a transaction entered a queue or left one.
+    fn keep_queues(&mut self, moved: bool, queues: Listed<QueueMoment>)
+        ensures kept { self.new.queues.items ≡ cond moved queues self.old.queues.items }
+        ensures others { self.new ≡ record self.old { queues = self.new.queues } }
+    {
+        if moved {
+            self.queues = queues.into_vec();
+        }
     }
 
     /// What an event changed that is carried out.
@@ -157,12 +209,13 @@ impl Watch {
             moments: links,
             arrived,
         } = seen;
-        let queues = self.queues(world)?;
+        let moved = have_moved(world.history().as_slice(), self.records);
+        let queues = self.queues(world, moved)?;
         let pipes = look_at_pipes(self.alloc, world, arrived.as_slice(), &mut self.pipes)?;
         let happened = self.describe_event(world, turn, found, arrived.as_slice())?;
         let (before, after) = moments(links, queues, pipes);
         let delta = difference(self.alloc, happened, &before, &after)?;
-        self.queues = after.queues.into_vec();
+        self.keep_queues(moved, after.queues);
         Ok(delta)
     }
 

@@ -1,18 +1,21 @@
 //! Pipes of data modules, as they stood when an event was over.
-ghost use Rattle.std.specs.Prelude.{◌≡◌, ◌≤◌, ◌++◌, ◌+◌, ◌-◌, ◌∷◌, [], ℕ, cond, filter_map, find, length, map, not, IfOk, OnOk};
+ghost use Rattle.std.specs.Prelude.{◌≡◌, ◌==◌, ◌&&◌, ◌≤◌, ◌++◌, ◌+◌, ◌-◌, ◌∷◌, [], ℕ, cond, filter_map, find, length, map, not, IfOk, OnOk};
 ghost use Rattle.std.specs.Option.{option_copied};
-ghost use Rattle.sdd_obligations.specs.All.{D, Input, IsSiteOf, Log, dm_no, time_at};
+ghost use Rattle.sdd_obligations.specs.All.{D, Input, IsSiteOf, Log, dm_no, numbers_to, time_at};
+ghost use Rattle.sdd_obligations.specs.base.Words.{is_empty};
 ghost use Rattle.sdd_obligations.specs.dm.Due.{or_zero};
 ghost use Rattle.sdd_obligations.specs.pipe.Digest as digest;
 ghost use Rattle.sdd_obligations.specs.pipe.Pipes.{pipe_at};
 ghost use Rattle.sdd_run.specs.world.Represents.{Calm};
 ghost use Rattle.sdd_watch.specs.Awaiting.{number_for};
-ghost use Rattle.sdd_watch.specs.Looking.{messages_in, numbers_for};
-ghost use Rattle.sdd_watch.specs.Moments.{all_pipes, pipes_at_module, source};
-ghost use Rattle.sdd_watch.specs.Watching.{IsBetween, arrived as all_arrived, changed_pipes, is_changed_pipe, is_on, is_still_pipe, pipe_after, pipe_before, watched_pipe};
+ghost use Rattle.sdd_watch.specs.Looking.{ArePipesSeen, messages_in, numbers_for};
+ghost use Rattle.sdd_watch.specs.Moments.{pipes_at_module, source};
+ghost use Rattle.sdd_watch.specs.Watching.{IsBetween, arrived as all_arrived, changed_pipes, is_changed_pipe, is_on, is_still_pipe, pipe_after, pipe_before, watched_pipe, watched_pipes};
 
+use crate::at_site::AtSite;
 use crate::both::Both;
 use crate::places::is_same;
+use crate::taking_part::is_reached;
 use crate::waiting::Purpose;
 use crate::watched_link::Arrived;
 use sdd_inside::PipeMoment;
@@ -126,6 +129,13 @@ fn count_processed(before: usize, came: &[u32], left: usize) -> Result<u64, NoMe
     Ok(all.saturating_sub(left) as u64)
 }
 
+/// Whether nothing came to a pipe and as many messages are unprocessed as before.
+fn is_quiet(before: usize, came: &[u32], left: usize) -> bool
+    ensures { result ≡ (is_empty came.now && before == left) }
+{
+    came.is_empty() && before == left
+}
+
 impl WatchedPipe {
     /// Looks at the pipe once an event is carried out, where these messages were handed over.
     fn look(
@@ -156,8 +166,11 @@ impl WatchedPipe {
         let sites = world.sites();
         let module = sites.data_module(self.dm);
         let unprocessed = module.count_unprocessed(self.class);
-        let passed = passed_to(module, self.class);
         let came = numbers_on(alloc, arrived, self.source, Site::D(self.dm), self.class)?;
+        if is_quiet(self.unprocessed, came.as_slice(), unprocessed) {
+            return Ok(());
+        }
+        let passed = passed_to(module, self.class);
         let processed = count_processed(self.unprocessed, came.as_slice(), unprocessed)?;
         let before = self.moment(Vec::new(alloc), 0, passed);
         let after = self.moment(came, processed, passed);
@@ -225,12 +238,17 @@ fn source(catalogue: &Catalogue, class: u32) -> Site
     }
 }
 
-/// Adds the pipes of a data module, to which nothing came.
-fn add_pipes(catalogue: &Catalogue, dm: DmNo, pipes: &mut Vec<WatchedPipe>) -> Result<(), NoMemory>
-    ensures { OnOk result ((g : Input) → catalogue.now ≡ g.catalogue → pipes.new.items
-        ≡ pipes.old.items ++ map (watched_pipe g []) (pipes_at_module g dm.0)) }
+/// The pipes of a data module, to which nothing came.
+fn first_pipes_at(
+    alloc: Global,
+    catalogue: &Catalogue,
+    dm: DmNo,
+) -> Result<AtSite<WatchedPipe>, NoMemory>
+    ensures { IfOk result (λ pipes. (g : Input) → catalogue.now ≡ g.catalogue
+        → pipes ≡ watched_pipes g [] dm.0) }
 {
     catalogue.law_is_sound();
+    let mut pipes = Vec::new(alloc);
     for class in 0..catalogue.classes() + 1 {
         pipes.push(WatchedPipe {
             dm,
@@ -239,23 +257,76 @@ fn add_pipes(catalogue: &Catalogue, dm: DmNo, pipes: &mut Vec<WatchedPipe>) -> R
             unprocessed: 0,
         })?;
     }
-    Ok(())
+    Ok(AtSite {
+        at: Site::D(dm),
+        parts: pipes,
+    })
 }
 
 /// The pipes of all data modules, before the first event.
 pub(crate) fn first_pipes(
     alloc: Global,
     catalogue: &Catalogue,
-) -> Result<Vec<WatchedPipe>, NoMemory>
+) -> Result<Vec<AtSite<WatchedPipe>>, NoMemory>
     ensures { IfOk result (λ pipes. (g : Input) → catalogue.now ≡ g.catalogue
-        → pipes.items ≡ map (watched_pipe g []) (all_pipes g)) }
+        → pipes.items ≡ map (watched_pipes g []) (numbers_to g.catalogue.dms)) }
 {
     catalogue.law_is_sound();
     let mut pipes = Vec::new(alloc);
     for number in 1..catalogue.dms() + 1 {
-        add_pipes(catalogue, DmNo(number as u8), &mut pipes)?;
+        pipes.push(first_pipes_at(alloc, catalogue, DmNo(number as u8))?)?;
     }
     Ok(pipes)
+}
+
+/// Looks at the pipes of a data module, where these messages were handed over.
+fn look_at_pipes_of(
+    alloc: Global,
+    world: &World<'_>,
+    arrived: &[Arrived],
+    pipes: &mut [WatchedPipe],
+    parts: &mut Both<PipeMoment>,
+) -> Result<(), NoMemory>
+    requires { (g : Input) × (old : Log) × (new : Log) × (d : ℕ) × Calm world.now g new
+        × IsSiteOf g (D (dm_no d)) × (pipes.old ≡ map (watched_pipe g old) (pipes_at_module g d)) }
+    ensures kept { OnOk result ((g : Input) (old new : Log) (d : ℕ) → Calm world.now g new
+        → IsBetween g old new → arrived.now ≡ all_arrived g old new → IsSiteOf g (D (dm_no d))
+        → pipes.old ≡ map (watched_pipe g old) (pipes_at_module g d)
+        → pipes.new ≡ map (watched_pipe g new) (pipes_at_module g d)) }
+    ensures seen { OnOk result ((g : Input) (old new : Log) (d : ℕ) → Calm world.now g new
+        → IsBetween g old new → arrived.now ≡ all_arrived g old new → IsSiteOf g (D (dm_no d))
+        → pipes.old ≡ map (watched_pipe g old) (pipes_at_module g d)
+        → ArePipesSeen g old new (pipes_at_module g d) parts.old parts.new) }
+{
+    for pipe in pipes.iter_mut() {
+        pipe.look(alloc, world, arrived, parts)?;
+    }
+    Ok(())
+}
+
+/// Looks at the pipes of a data module, where one of these messages was handed over to it.
+fn look_at_module(
+    alloc: Global,
+    world: &World<'_>,
+    arrived: &[Arrived],
+    pipes: &mut AtSite<WatchedPipe>,
+    parts: &mut Both<PipeMoment>,
+) -> Result<(), NoMemory>
+    requires { (g : Input) × (old : Log) × (new : Log) × (d : ℕ) × Calm world.now g new
+        × IsSiteOf g (D (dm_no d)) × (pipes.old ≡ watched_pipes g old d) }
+    ensures kept { OnOk result ((g : Input) (old new : Log) (d : ℕ) → Calm world.now g new
+        → IsBetween g old new → arrived.now ≡ all_arrived g old new → IsSiteOf g (D (dm_no d))
+        → pipes.old ≡ watched_pipes g old d → pipes.new ≡ watched_pipes g new d) }
+    ensures seen { OnOk result ((g : Input) (old new : Log) (d : ℕ) → Calm world.now g new
+        → IsBetween g old new → arrived.now ≡ all_arrived g old new → IsSiteOf g (D (dm_no d))
+        → pipes.old ≡ watched_pipes g old d
+        → ArePipesSeen g old new (pipes_at_module g d) parts.old parts.new) }
+{
+    if !is_reached(arrived, pipes.at) {
+        return Ok(());
+    }
+    look_at_pipes_of(alloc, world, arrived, &mut pipes.parts, parts)?;
+    Ok(())
 }
 
 /// Looks at all pipes once an event is carried out, where these messages were handed over. The
@@ -264,26 +335,26 @@ pub(crate) fn look_at_pipes(
     alloc: Global,
     world: &World<'_>,
     arrived: &[Arrived],
-    pipes: &mut [WatchedPipe],
+    pipes: &mut [AtSite<WatchedPipe>],
 ) -> Result<Both<PipeMoment>, NoMemory>
     requires { (g : Input) × (old : Log) × (new : Log) × Calm world.now g new
-        × (pipes.old ≡ map (watched_pipe g old) (all_pipes g)) }
+        × (pipes.old ≡ map (watched_pipes g old) (numbers_to g.catalogue.dms)) }
     ensures before { IfOk result (λ parts. (g : Input) (old new : Log) → Calm world.now g new
         → IsBetween g old new → arrived.now ≡ all_arrived g old new
-        → pipes.old ≡ map (watched_pipe g old) (all_pipes g)
+        → pipes.old ≡ map (watched_pipes g old) (numbers_to g.catalogue.dms)
         → parts.before.items ≡ map (pipe_before g old new) (changed_pipes g old new)) }
     ensures after { IfOk result (λ parts. (g : Input) (old new : Log) → Calm world.now g new
         → IsBetween g old new → arrived.now ≡ all_arrived g old new
-        → pipes.old ≡ map (watched_pipe g old) (all_pipes g)
+        → pipes.old ≡ map (watched_pipes g old) (numbers_to g.catalogue.dms)
         → parts.after.items ≡ map (pipe_after g old new) (changed_pipes g old new)) }
     ensures kept { OnOk result ((g : Input) (old new : Log) → Calm world.now g new
         → IsBetween g old new → arrived.now ≡ all_arrived g old new
-        → pipes.old ≡ map (watched_pipe g old) (all_pipes g)
-        → pipes.new ≡ map (watched_pipe g new) (all_pipes g)) }
+        → pipes.old ≡ map (watched_pipes g old) (numbers_to g.catalogue.dms)
+        → pipes.new ≡ map (watched_pipes g new) (numbers_to g.catalogue.dms)) }
 {
     let mut parts = Both::new(alloc);
-    for pipe in pipes.iter_mut() {
-        pipe.look(alloc, world, arrived, &mut parts)?;
+    for at in pipes.iter_mut() {
+        look_at_module(alloc, world, arrived, at, &mut parts)?;
     }
     Ok(parts)
 }

@@ -1,5 +1,6 @@
-use Rattle.sdd_watch.proofs.All.{U, takes_part}
+use Rattle.sdd_watch.proofs.All.{Arrived, List, U, [], arith, eqb-true, length, refl, sym, takes_part, true, ◌==◌, ◌∙◌, ◌∷◌, ◌≡◌}
 use Rattle.sdd_watch.proofs.SoFar.{filtered_all, filtered_to}
+use Rattle.sdd_watch.proofs.TakingPart.{none_takes}
 use Rattle.sdd_watch.proofs.taking_part.busy.Goals as goal
 
 pub loop-at-preserved : goal.loop-at-preserved
@@ -11,3 +12,13 @@ pub returns : goal.returns
 returns c = λ g old new over same.
     filtered_all (takes_part g old new) c.args.sites.now c.loop-at.at-index c.loop-at.busy.items c.loop-at-test.false
     (c.loop-at.invariant g old new over same)
+
+none_there : (xs : List Arrived) → (length xs == 0) ≡ true → xs ≡ []
+none_there [] e = refl
+none_there (x ∷ xs) e = absurd (let n = eqb-true (length (x ∷ xs)) 0 e in omega (arith, n))
+
+pub returns-then-is_on_link : goal.returns-then-is_on_link
+returns-then-is_on_link c = λ g old new over same.
+    c.new-busy.ensures.items
+    ∙ sym (none_takes g old new c.args.arrived.now c.args.event.now c.args.sites.now same
+    (none_there c.args.arrived.now (sym c.is_empty.ensures ∙ c.if-is_empty.true)) over.event_is (λ found at. c.is_on_link.ensures c.if-is_on_link.true g new found at))

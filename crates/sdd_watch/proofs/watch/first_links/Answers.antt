@@ -1,12 +1,13 @@
-use Rattle.sdd_watch.proofs.All.{U, [], watched_link}
+use Rattle.sdd_watch.proofs.All.{U, [], ap, map, watched_links, ◌∙◌}
 use Rattle.sdd_watch.proofs.SoFar.{mapped_all, mapped_to}
 use Rattle.sdd_watch.proofs.watch.first_links.Goals as goal
 
-pub loop-link-preserved : goal.loop-link-preserved
-loop-link-preserved c =
-    mapped_to (watched_link []) c.args.links.now c.loop-link.link-index (U, U) c.loop-link.watched.items c.push.new.self.items c.new.result
-    c.loop-link-test.true c.new.ensures c.in_ok-push.ensures.items c.loop-link.invariant
+pub loop-from-preserved : goal.loop-from-preserved
+loop-from-preserved c = λ g all.
+    mapped_to (watched_links g []) c.args.sites.now c.loop-from.from-index U c.loop-from.links.items c.push.new.self.items c.in_ok-first_links_from.field-0
+    c.loop-from-test.true (c.in_ok-first_links_from.ensures g all) c.in_ok-push.ensures.items (c.loop-from.invariant g all)
 
 pub returns : goal.returns
-returns c =
-    mapped_all (watched_link []) c.args.links.now c.loop-link.link-index c.loop-link.watched.items c.loop-link-test.false c.loop-link.invariant
+returns c = λ g all.
+    mapped_all (watched_links g []) c.args.sites.now c.loop-from.from-index c.loop-from.links.items c.loop-from-test.false (c.loop-from.invariant g all)
+    ∙ ap (map (watched_links g [])) all

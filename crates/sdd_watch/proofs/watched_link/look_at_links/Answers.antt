@@ -1,56 +1,57 @@
--- One link more, and all of them.
-use Rattle.sdd_watch.proofs.All.{sym, ◌∙◌}
-use Rattle.sdd_watch.proofs.LinksLooked.{at_link, links_more, links_over, no_links_yet}
+-- One site more, and all of them.
+use Rattle.sdd_watch.proofs.All.{all_links, arrived_on, changed_links, filter_map, get_or, link_after, link_before, map}
+use Rattle.sdd_watch.proofs.LinksLooked.{seen_all, site_at, site_here, sites_more, sites_over}
+use Rattle.sdd_watch.proofs.PipesVisited.{at_hand}
 use Rattle.sdd_watch.proofs.watched_link.look_at_links.Goals as goal
 
-pub loop-link-init : goal.loop-link-init
-loop-link-init c = λ g old new over e.
-    no_links_yet g old new c.args.links.now c.new.result.before.items c.new.result.after.items c.new-2.result.items e
-    c.new.ensures.before c.new.ensures.after c.new-2.ensures.items
-
-pub look-requires : goal.look-requires
-look-requires c =
+pub look_at_site-requires : goal.look_at_site-requires
+look_at_site-requires c =
     let r = c.requires in
-    let s = c.loop-link.on_links in (
+    let p = site_at r.0 r.1 r.2 c.args.links.now c.loop-at.links c.loop-at.at-index (get_or c.loop-at.links c.loop-at.at-index c.at-item.result)
+    record { moments = c.new.result; arrived = c.new-2.result } c.loop-at.on_links r.4 c.loop-at-test.true
+    (c.loop-at.invariant r.0 r.1 r.2 r.3 r.4)
+    (at_hand c.args.links.now c.loop-at.links c.loop-at.at-index c.at-item.result c.loop-at-test.true c.loop-at.auto.links) in (
       r.0,
       r.1,
       r.2,
+      p.place,
       r.3,
-      at_link r.0 r.1 r.2 c.args.links.now c.loop-link.links c.loop-link.link-index c.link-item.result
-          s.moments.before.items s.moments.after.items s.arrived.items r.4 c.loop-link-test.true (c.loop-link.invariant r.0 r.1 r.2 r.3 r.4) c.link-item.is,
+      c.reach_of-reach.ensures r.0 r.2 r.3.calm,
+      site_here r.0 c.loop-at.at-index p.place p.is_there,
+      p.stood,
     )
 
-pub loop-link-preserved : goal.loop-link-preserved
-loop-link-preserved c = λ g old new over e.
-    let s = c.loop-link.on_links in
-    let t = c.add.new.self in
-    links_more g old new c.args.links.now c.loop-link.links c.loop-link.link-index c.link-item.result c.look.new.self c.in_ok-seen.seen
-    s.moments.before.items s.moments.after.items t.moments.before.items t.moments.after.items s.arrived.items t.arrived.items
-    e c.loop-link-test.true (c.loop-link.invariant g old new over e) c.link-item.is
-    (λ l linked stood. c.in_ok-seen.ensures.seen g old new over l linked (sym c.link-item.is ∙ stood))
-    (λ l linked stood. c.in_ok-seen.ensures.kept g old new over l linked (sym c.link-item.is ∙ stood))
-    c.in_ok-add.ensures.before c.in_ok-add.ensures.after c.in_ok-add.ensures.arrived
+pub loop-at-preserved : goal.loop-at-preserved
+loop-at-preserved c = λ g old new over stood.
+    sites_more g old new c.args.links.now c.loop-at.links c.loop-at.at-index (get_or c.loop-at.links c.loop-at.at-index c.at-item.result)
+    c.look_at_site.new.links record { moments = c.new.result; arrived = c.new-2.result } c.loop-at.on_links c.look_at_site.new.on_links
+    stood c.loop-at-test.true (c.loop-at.invariant g old new over stood)
+    (at_hand c.args.links.now c.loop-at.links c.loop-at.at-index c.at-item.result c.loop-at-test.true c.loop-at.auto.links)
+    (λ a here was. c.in_ok-look_at_site.ensures.kept g old new a over (c.reach_of-reach.ensures g new over.calm) here was)
+    (λ a here was. c.in_ok-look_at_site.ensures.seen g old new a over (c.reach_of-reach.ensures g new over.calm) here was)
 
 pub returns-clause-before : goal.returns-clause-before
-returns-clause-before c = λ g old new over e.
-    let s = c.loop-link.on_links in
-    (links_over g old new c.args.links.now c.loop-link.links c.loop-link.link-index s.moments.before.items s.moments.after.items s.arrived.items
-    e c.loop-link-test.false (c.loop-link.invariant g old new over e)).before_are
+returns-clause-before c = λ g old new over stood.
+    let s = sites_over g old new c.args.links.now c.loop-at.links c.loop-at.at-index record { moments = c.new.result; arrived = c.new-2.result }
+    c.loop-at.on_links stood c.loop-at-test.false (c.loop-at.invariant g old new over stood) in
+    seen_all c.new.result.before.items (map (link_before old) (changed_links g old new)) c.loop-at.on_links.moments.before.items
+    c.new.ensures.before s.1.before_are
 
 pub returns-clause-after : goal.returns-clause-after
-returns-clause-after c = λ g old new over e.
-    let s = c.loop-link.on_links in
-    (links_over g old new c.args.links.now c.loop-link.links c.loop-link.link-index s.moments.before.items s.moments.after.items s.arrived.items
-    e c.loop-link-test.false (c.loop-link.invariant g old new over e)).after_are
+returns-clause-after c = λ g old new over stood.
+    let s = sites_over g old new c.args.links.now c.loop-at.links c.loop-at.at-index record { moments = c.new.result; arrived = c.new-2.result }
+    c.loop-at.on_links stood c.loop-at-test.false (c.loop-at.invariant g old new over stood) in
+    seen_all c.new.result.after.items (map (link_after old new) (changed_links g old new)) c.loop-at.on_links.moments.after.items
+    c.new.ensures.after s.1.after_are
 
 pub returns-clause-arrived : goal.returns-clause-arrived
-returns-clause-arrived c = λ g old new over e.
-    let s = c.loop-link.on_links in
-    (links_over g old new c.args.links.now c.loop-link.links c.loop-link.link-index s.moments.before.items s.moments.after.items s.arrived.items
-    e c.loop-link-test.false (c.loop-link.invariant g old new over e)).come_are
+returns-clause-arrived c = λ g old new over stood.
+    let s = sites_over g old new c.args.links.now c.loop-at.links c.loop-at.at-index record { moments = c.new.result; arrived = c.new-2.result }
+    c.loop-at.on_links stood c.loop-at-test.false (c.loop-at.invariant g old new over stood) in
+    seen_all c.new-2.result.items (filter_map (arrived_on old new) (all_links g)) c.loop-at.on_links.arrived.items
+    c.new-2.ensures.items s.1.arrived_are
 
 pub returns-clause-kept : goal.returns-clause-kept
-returns-clause-kept c = λ g old new over e.
-    let s = c.loop-link.on_links in
-    (links_over g old new c.args.links.now c.loop-link.links c.loop-link.link-index s.moments.before.items s.moments.after.items s.arrived.items
-    e c.loop-link-test.false (c.loop-link.invariant g old new over e)).links_are
+returns-clause-kept c = λ g old new over stood.
+    (sites_over g old new c.args.links.now c.loop-at.links c.loop-at.at-index record { moments = c.new.result; arrived = c.new-2.result }
+    c.loop-at.on_links stood c.loop-at-test.false (c.loop-at.invariant g old new over stood)).0

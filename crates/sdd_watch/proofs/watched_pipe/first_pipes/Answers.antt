@@ -5,8 +5,8 @@ use Rattle.sdd_watch.proofs.watched_pipe.first_pipes.Goals as goal
 
 pub loop-number-preserved : goal.loop-number-preserved
 loop-number-preserved c = λ g e.
-    module_more g c.loop-number.number _ c.loop-number.pipes.items c.add_pipes.new.pipes.items c.loop-number.auto.number refl
-    (c.loop-number.invariant g e) (c.in_ok-add_pipes.ensures g e)
+    module_more g c.loop-number.number c.loop-number.pipes.items c.push.new.self.items c.in_ok-first_pipes_at.field-0 c.loop-number.auto.number
+    (c.in_ok-first_pipes_at.ensures g e) c.in_ok-push.ensures.items (c.loop-number.invariant g e)
 
 pub returns : goal.returns
 returns c = λ g e.

@@ -1,12 +1,12 @@
--- The pipes before the place at hand are looked at, and the others stand as they stood.
-use Rattle.sdd_watch.proofs.All.{Calm, Input, IsBetween, Log, all_pipes, arrived, map, watched_pipe, ◌≡◌}
-use Rattle.sdd_watch.proofs.PipesVisited.{AsTheyStood, PipesSoFar}
+-- The data modules before the one at hand are looked at, and the others stand as they stood.
+use Rattle.sdd_watch.proofs.All.{Calm, Input, IsBetween, Log, arrived, map, numbers_to, watched_pipes, ◌≡◌}
+use Rattle.sdd_watch.proofs.ModulesVisited.{ModulesSoFar}
+use Rattle.sdd_watch.proofs.PipesVisited.{AsTheyStood}
 use Rattle.sdd_watch.proofs.watched_pipe.look_at_pipes.Given as goal
 
-abbrev pub invariant-loop-pipe : goal.invariant-loop-pipe
-invariant-loop-pipe l = record {
-  rest : AsTheyStood l.pipe-index l.fn.pipes l.pipes;
+abbrev pub invariant-loop-at : goal.invariant-loop-at
+invariant-loop-at l = record {
+  rest : AsTheyStood l.at-index l.fn.pipes l.pipes;
   so_far : (g : Input) (old new : Log) → Calm l.world g new → IsBetween g old new → l.arrived ≡ arrived g old new
-      → l.fn.pipes ≡ map (watched_pipe g old) (all_pipes g)
-      → PipesSoFar g old new l.pipe-index l.pipes l.parts.before.items l.parts.after.items;
+      → l.fn.pipes ≡ map (watched_pipes g old) (numbers_to g.catalogue.dms) → ModulesSoFar g old new l.at-index l.pipes l.initial.parts l.parts;
 }

@@ -1,0 +1,50 @@
+-- Which links an event may change: those on which it delivers, loses, repeats or resends, those to a module that comes up,
+-- and those from the site that acts.
+use Rattle.std.specs.Prelude.{Bool, false, true, ◌&&◌, ◌||◌}
+use Rattle.sdd_obligations.specs.All.{D, Deliver, Event, Input, Log, Lose, Repeat, Resend, Site, Submit, Up, nth_era, redeclares, same_site, txn_at}
+use Rattle.sdd_obligations.specs.logs.Due.{home_of}
+use Rattle.sdd_inside.specs.declared.delta.Found.{Found}
+use Rattle.sdd_inside.specs.declared.delta.Found.TheVariants as founds
+use Rattle.sdd_watch.specs.declared.reach.Reach.{Reach}
+use Rattle.sdd_watch.specs.declared.reach.Reach.TheVariants.{Across, Along, Around, From, Nowhere}
+
+-- an acknowledgement makes no site act
+abbrev pub reach_of_delivery : Site → Site → Found → Reach
+reach_of_delivery a b (founds.Acknowledged upto acked) = Along a b
+reach_of_delivery a b _ = Across a b
+
+-- by the log after the event, and what it found
+abbrev pub reach_of : Input → Log → Event → Found → Reach
+reach_of g log (Submit n) found = From (home_of (nth_era g (redeclares log)).catalogue (txn_at g n.0))
+reach_of g log (Deliver a b k) found = reach_of_delivery a b found
+reach_of g log (Lose a b k) found = Along a b
+reach_of g log (Repeat a b k) found = Along a b
+reach_of g log (Resend a b) found = Along a b
+reach_of g log (Up d) found = Around (D d)
+reach_of g log _ found = Nowhere
+
+-- whether a site may act
+abbrev pub may_act : Reach → Site → Bool
+may_act (Across a b) x = same_site x b
+may_act (From a) x = same_site x a
+may_act (Around a) x = same_site x a
+may_act _ x = false
+
+-- whether the link from x to y goes one way or the other between two sites
+abbrev pub is_between : Site → Site → Site → Site → Bool
+is_between a b x y = (same_site x a && same_site y b) || (same_site x b && same_site y a)
+
+-- whether the link from x to y may change though x puts no message on it
+abbrev pub is_touched : Reach → Site → Site → Bool
+is_touched (Along a b) x y = is_between a b x y
+is_touched (Across a b) x y = is_between a b x y
+is_touched (Around a) x y = same_site y a
+is_touched _ x y = false
+
+-- whether one of the links from x may change
+abbrev pub may_change_from : Reach → Site → Bool
+may_change_from Nowhere x = false
+may_change_from (Along a b) x = same_site x a || same_site x b
+may_change_from (Across a b) x = same_site x a || same_site x b
+may_change_from (From a) x = same_site x a
+may_change_from (Around a) x = true
