@@ -3,7 +3,7 @@
 use Rattle.std.specs.Prelude.{ℕ, ◌-◌, ◌≡◌, Bool, true, false, ◌&&◌, if◌then◌else◌, List, [], ◌∷◌, ◌++◌, length, is_some, Option, Some, None, refl}
 use Rattle.std.proofs.Common.{ap, append-nil, append_assoc, subst, sym, ◌∙◌}
 use Rattle.std.specs.Prelude.{◌+◌}
-use Rattle.sdd_obligations.specs.net.Links.{Link, Way, arrives, deliver, lose, packet_at, put, repeat, resend, turned, unacked, with_message, with_packet, without_at, without_packet}
+use Rattle.sdd_net.specs.Links.{Link, Way, arrives, deliver, lose, packet_at, put, repeat, resend, turned, unacked, with_message, with_packet, without_at, without_packet}
 use Rattle.sdd_net.specs.declared.packet.Packet.{Packet}
 use Rattle.sdd_net.specs.declared.packet.Packet.TheVariants.{Message, Ack}
 
