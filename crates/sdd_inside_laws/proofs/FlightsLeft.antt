@@ -1,6 +1,6 @@
 -- What an event and what it makes due leave of a flight: all packets of the one before, in their order, without the one that the
 -- event takes; others stand behind them.
-use Rattle.std.specs.Prelude.{ℕ, ◌-◌, ◌≡◌, Bool, true, false, ◌&&◌, if◌then◌else◌, List, [], ◌∷◌, ◌++◌, length, is_some, Option, Some, None, refl}
+use Rattle.std.specs.Prelude.{ℕ, ◌-◌, ◌≡◌, Bool, true, false, ◌&&◌, if◌then◌else◌, List, [], ◌∷◌, ◌++◌, length, is_some, Some, None, refl}
 use Rattle.std.proofs.Common.{ap, append-nil, append_assoc, subst, sym, ◌∙◌}
 use Rattle.std.specs.Prelude.{◌+◌}
 use Rattle.sdd_net.specs.Links.{Link, Way, arrives, deliver, lose, packet_at, put, repeat, resend, turned, unacked, with_message, with_packet, without_at, without_packet}

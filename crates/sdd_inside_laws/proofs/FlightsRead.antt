@@ -1,7 +1,7 @@
 -- What an event and what it makes due leave of the flight of a link, by the log: the old flight without the packet that the
 -- event took off it stands at the front of the new one.
-use Rattle.std.proofs.Common.{ap, append-nil, arith, subst, sym, ◌∙◌}
-use Rattle.std.specs.Prelude.{ℕ, suc, ◌-◌, ◌≡◌, ◌&&◌, Bool, true, false, if◌then◌else◌, List, [], ◌∷◌, ◌++◌, drop, is_some, length, slice_get, Option, Some, None, refl}
+use Rattle.std.proofs.Common.{ap, arith, subst, sym, ◌∙◌}
+use Rattle.std.specs.Prelude.{ℕ, ◌-◌, ◌≡◌, ◌&&◌, Bool, true, false, if◌then◌else◌, List, [], ◌∷◌, ◌++◌, is_some, length, slice_get, Option, Some, None, refl}
 use Rattle.sdd_obligations.specs.All.{Ack, Call, Deliver, Does, Entry, Event, Input, Log, Lose, Mark, Msg, Packet, Puts, Redeclare, Redeclares, Repeat, Resend, Site, calls_of, link_of, marks, packet_at, puts, same_site, sends_of_act}
 use Rattle.sdd_obligations.proofs.ReadSent.{site_sym}
 use Rattle.sdd_obligations.specs.net.Links.{Link, deliver, link, lose, repeat, resend, turned}

@@ -1,6 +1,6 @@
 -- What is told of many parts, one after the other, and looked up by one: it is what is told of that one.
-use Rattle.std.proofs.Common.{ap, append_assoc, subst, sym, ◌∙◌}
-use Rattle.std.specs.Prelude.{ℕ, zero, suc, ◌≡◌, Bool, true, false, List, [], ◌∷◌, ◌++◌, find, flat_map, map, slice_get, Option, Some, None, refl}
+use Rattle.std.proofs.Common.{ap, sym, ◌∙◌}
+use Rattle.std.specs.Prelude.{ℕ, zero, suc, ◌≡◌, Bool, true, false, List, [], ◌∷◌, ◌++◌, find, flat_map, slice_get, Some, None, refl}
 
 pub none_before : {B : Type 0} (key : B → Bool) (xs ys : List B) → find key xs ≡ None → find key (xs ++ ys) ≡ find key ys
 none_before key [] ys e = refl

@@ -4,6 +4,7 @@ mod FoundIn
 mod LinksRead
 mod PacketsRead
 mod Parts
+mod PipesThere
 mod PipesRead
 mod QueueMoves
 mod QueueNumbers

@@ -1,16 +1,14 @@
 -- What a reader has of a link after an event is what there is: its flight, its messages, and how many are handed over.
-use Rattle.std.proofs.Common.{ap, eqb-true, subst, sym, ◌∙◌}
+use Rattle.std.proofs.Common.{ap, eqb-true, sym, ◌∙◌}
 use Rattle.std.proofs.lemmas.List.{drop-map, map-append, take-map}
 use Rattle.std.proofs.Math.Seq.{drop-append_seam}
-use Rattle.std.specs.Prelude.{ℕ, ◌+◌, ◌-◌, ◌==◌, ◌&&◌, ◌≡◌, Bool, true, false, if◌then◌else◌, List, [], ◌∷◌, ◌++◌, drop, filter, filter_map, find, flat_map, length, map, option_map, slice_get, take, unwrap_or, None, Some, refl}
+use Rattle.std.specs.Prelude.{ℕ, ◌+◌, ◌-◌, ◌==◌, ◌&&◌, ◌≡◌, Bool, true, false, if◌then◌else◌, List, [], ◌∷◌, ◌++◌, drop, filter, filter_map, find, length, map, option_map, slice_get, take, unwrap_or, None, Some, refl}
 use Rattle.sdd_obligations.proofs.invariants.Sites.{site_self}
 use Rattle.sdd_obligations.specs.All.{Input, Log, Msg, Packet, Site, all_links, handed, link_of, same_site, sent}
 use Rattle.sdd_inside.specs.Differences.{handed_between, in_flight, on_link, put_between}
-use Rattle.sdd_inside.specs.declared.delta.Delta.{Delta}
 use Rattle.sdd_inside.specs.declared.delta.Handed.{Handed}
 use Rattle.sdd_inside.specs.declared.delta.InFlight.{InFlight}
 use Rattle.sdd_inside.specs.declared.delta.Put.{Put}
-use Rattle.sdd_inside.specs.declared.delta.Taken.{Taken}
 use Rattle.sdd_inside_laws.proofs.FlightsLeft.{kept_if}
 use Rattle.sdd_inside_laws.proofs.FlightsRead.{as_many_left, kept_between, link_begins}
 use Rattle.sdd_inside_laws.proofs.FoundIn.{found_in}

@@ -1,8 +1,8 @@
 -- The packets of a link that are told: how they stand in the flight, and which messages are told with them.
 use Rattle.std.proofs.Common.{ap, arith, inl, inr, le-leb, le-ltb, lt-ltb, ◌∙◌}
 use Rattle.std.proofs.lemmas.Bool.{cases_lt, lt-leb}
-use Rattle.std.specs.Prelude.{ℕ, zero, suc, ◌+◌, ◌-◌, ◌≡◌, ◌≤◌, Bool, true, false, ◌&&◌, if◌then◌else◌, nat_le, List, [], ◌∷◌, ◌++◌, drop, filter, filter_map, find, flat_map, length, map, slice_get, unwrap_or, Option, Some, None, refl}
-use Rattle.sdd_obligations.specs.All.{Ack, Message, Msg, Packet, Site}
+use Rattle.std.specs.Prelude.{ℕ, zero, suc, ◌+◌, ◌-◌, ◌≡◌, true, false, if◌then◌else◌, nat_le, List, [], ◌∷◌, ◌++◌, filter, filter_map, flat_map, length, map, slice_get, Option, Some, None, refl}
+use Rattle.sdd_obligations.specs.All.{Ack, Message, Msg, Packet}
 use Rattle.sdd_obligations.specs.net.Links.{numbered, without_at}
 use Rattle.sdd_inside.specs.Differences.{changes, in_flight}
 use Rattle.sdd_inside.specs.declared.delta.InFlight.TheVariants.{Again, First}

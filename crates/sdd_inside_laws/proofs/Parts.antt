@@ -1,8 +1,8 @@
 -- Lists: what is taken off a front part, and parts that are all the same or all found.
-use Rattle.std.proofs.Common.{ap, append-nil, arith, subst, sym, ◌∙◌}
-use Rattle.std.proofs.lemmas.List.{append_cancel_left, drop-append-le, drop-drop, length-append}
-use Rattle.std.proofs.Math.Seq.{drop-append_seam, take-append_seam}
-use Rattle.std.specs.Prelude.{ℕ, zero, suc, ◌+◌, ◌-◌, ◌≡◌, ◌≤◌, List, [], ◌∷◌, ◌++◌, drop, length, map, slice_get, take, Some, refl}
+use Rattle.std.proofs.Common.{ap, arith, sym, ◌∙◌}
+use Rattle.std.proofs.lemmas.List.{append_cancel_left, drop-append-le, drop-drop}
+use Rattle.std.proofs.Math.Seq.{take-append_seam}
+use Rattle.std.specs.Prelude.{ℕ, suc, ◌+◌, ◌-◌, ◌≡◌, ◌≤◌, List, [], ◌∷◌, ◌++◌, drop, length, map, slice_get, take, Some, refl}
 
 -- a list of which a front part was taken, and then more where others stand behind it
 pub moved_on : {A : Type 0} (low high : ℕ) (old over new : List A) → new ≡ old ++ over → low ≤ length old → low ≤ high

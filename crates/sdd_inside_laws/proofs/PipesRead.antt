@@ -4,24 +4,23 @@ use Rattle.std.proofs.lemmas.Bool.{and_parts}
 use Rattle.std.proofs.lemmas.List.{length-append}
 use Rattle.std.proofs.lemmas.List.Elements.{filter_map-append}
 use Rattle.std.proofs.Math.Seq.{drop-append_seam}
-use Rattle.std.specs.Prelude.{ℕ, ◌+◌, ◌-◌, ◌==◌, ◌&&◌, ◌≡◌, ◌≤◌, Bool, true, false, if◌then◌else◌, List, [], ◌∷◌, ◌++◌, drop, filter_map, find, flat_map, length, map, slice_get, None, Some, refl}
+use Rattle.std.specs.Prelude.{ℕ, ◌-◌, ◌==◌, ◌&&◌, ◌≡◌, ◌≤◌, Bool, true, false, if◌then◌else◌, List, [], ◌∷◌, ◌++◌, drop, filter_map, find, length, slice_get, None, Some, refl}
 use Rattle.sdd_obligations.proofs.invariants.InPipe.{in_pipe, in_pipe_later}
 use Rattle.sdd_obligations.proofs.invariants.Made.{local_grows}
 use Rattle.sdd_obligations.proofs.invariants.Once.{processed_grows}
 use Rattle.sdd_obligations.proofs.logs.NewMarks.{lawful_permitted}
-use Rattle.sdd_obligations.specs.All.{ClassNo, D, DmNo, Input, IsClassHere, IsGood, IsPermitted, Log, Msg, Pipe, Site, Ts, class_no, class_puts, dm_no, is_empty, local_of, pipe, setting_of, time_at}
+use Rattle.sdd_obligations.specs.All.{D, Input, IsClassHere, IsGood, IsPermitted, Log, Msg, Pipe, class_no, class_puts, dm_no, is_empty, local_of, pipe, setting_of, time_at}
 use Rattle.sdd_obligations.specs.base.Words.{head_of}
 use Rattle.sdd_obligations.specs.invariants.All.{all_of}
-use Rattle.sdd_inside.specs.Differences.{changes, pipe_between}
+use Rattle.sdd_inside.specs.Differences.{pipe_between}
 use Rattle.sdd_inside.specs.declared.delta.PipeDelta.{PipeDelta}
-use Rattle.sdd_inside.specs.declared.moment.Happened.{Happened}
 use Rattle.sdd_inside_laws.proofs.FoundIn.{found_in}
 use Rattle.sdd_inside_laws.proofs.PacketsRead.{each_change}
-use Rattle.sdd_inside_laws.proofs.Parts.{moved_on, none_long, same_fronts, same_rests}
+use Rattle.sdd_inside_laws.proofs.Parts.{moved_on, same_fronts, same_rests}
 use Rattle.sdd_inside_laws.specs.Reader.{KnownPipe, is_pipe_of, known_pipe, pipe_moved, read_pipe}
 use Rattle.sdd_watch.proofs.Between.{joined_more}
 use Rattle.sdd_watch.proofs.Came.{all_came, handed_parts}
-use Rattle.sdd_watch.proofs.PipesVisited.{pipe_there}
+use Rattle.sdd_inside_laws.proofs.PipesThere.{pipe_there}
 use Rattle.sdd_watch.specs.Happens.{happened_at}
 use Rattle.sdd_watch.specs.Moments.{all_pipes, came, handed_on, number_through, passed_to, pipe_moment, source, time_passed}
 use Rattle.sdd_watch.specs.Text.{change}

@@ -1,8 +1,8 @@
 -- What a reader has of a queue after an event is what there is: which transactions of a class are submitted and not committed.
-use Rattle.std.proofs.Common.{ap, append-nil, arith, eq-eqb, eqb-true, subst, sym, ◌∙◌}
+use Rattle.std.proofs.Common.{ap, append-nil, eq-eqb, eqb-true, subst, sym, ◌∙◌}
 use Rattle.std.proofs.lemmas.Bool.{and_parts}
 use Rattle.std.proofs.lemmas.List.{map-append}
-use Rattle.std.specs.Prelude.{ℕ, zero, suc, ◌+◌, ◌-◌, ◌==◌, ◌&&◌, ◌≡◌, ◌≢◌, Bool, true, false, if◌then◌else◌, List, [], ◌∷◌, ◌++◌, drop, find, length, map, slice_get, None, Some, refl}
+use Rattle.std.specs.Prelude.{ℕ, ◌==◌, ◌&&◌, ◌≡◌, Bool, true, false, if◌then◌else◌, List, [], ◌∷◌, ◌++◌, drop, find, length, map, slice_get, None, Some, refl}
 use Rattle.std.specs.List.{flat_map}
 use Rattle.sdd_obligations.proofs.invariants.Bools.{not_zero}
 use Rattle.sdd_obligations.proofs.invariants.Fair.{all_new, home_fair}
@@ -11,14 +11,13 @@ use Rattle.sdd_obligations.proofs.invariants.Made.{local_grows}
 use Rattle.sdd_obligations.proofs.logs.NewMarks.{lawful_permitted}
 use Rattle.sdd_obligations.specs.All.{Each, Input, IsGood, IsPermitted, Log, Setting, Site, T, TxnNo, class_at, class_no, home, is_empty, local_of, numbers_to, queue, runs, setting_of, tm_no}
 use Rattle.sdd_obligations.specs.invariants.Steps.{IsFair, IsNew}
-use Rattle.sdd_obligations.specs.site_module.SiteLog as site
 use Rattle.sdd_inside.specs.Differences.{came, changes, gone, queue_between}
 use Rattle.sdd_inside.specs.declared.delta.QueueDelta.{QueueDelta}
 use Rattle.sdd_inside.specs.declared.moment.QueueMoment.{QueueMoment}
 use Rattle.sdd_inside_laws.proofs.FoundIn.{found_in}
 use Rattle.sdd_inside_laws.proofs.PacketsRead.{each_change}
 use Rattle.sdd_inside_laws.proofs.Parts.{same_members}
-use Rattle.sdd_inside_laws.proofs.QueueMoves.{IsMoved, all_differ, numbers, queue_moved}
+use Rattle.sdd_inside_laws.proofs.QueueMoves.{all_differ, numbers, queue_moved}
 use Rattle.sdd_inside_laws.proofs.QueueNumbers.{queue_told}
 use Rattle.sdd_inside_laws.specs.Reader.{is_queue_of, queue_classes, queue_moved as moved_by, read_queue}
 use Rattle.sdd_watch.proofs.Between.{joined_more}
