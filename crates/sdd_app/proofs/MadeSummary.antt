@@ -1,9 +1,10 @@
 -- The summary of a made input tells that all of its transactions are committed.
-use Rattle.sdd_app.proofs.All.{Answers, ComesToMade, ComesToSummary, Err, List, MAX_TXNS, Ok, Result, Status, bank, made_summed, workload_of, ℕ, ◌≤◌}
-use Rattle.sdd_shell.specs.declared.status.Status.TheVariants as statuses
+use Rattle.sdd_app.proofs.All.{EndsAtLimit, Err, IsMadeSummary, IsSummaryOn, List, Limit, MAX_TXNS, MakesText, NoMemory, Ok, Result, Status, bank, made_summed, workload_of, ℕ, ◌≤◌}
 
-pub all_made : {A : Type 0} (seed count : ℕ) → count ≤ MAX_TXNS → (r : Result A Status) (text : A → List ℕ)
-    → Answers r text (ComesToSummary bank (workload_of seed count)) → Answers r text (ComesToMade seed count)
-all_made seed count few (Ok made) text summed = record { summary = summed; all_committed = made_summed seed count (text made) few summed }
-all_made seed count few (Err statuses.Usage) text summed = summed
-all_made seed count few (Err _) text summed = summed
+pub all_made : (seed count : ℕ) → count ≤ MAX_TXNS → (r : Result (List ℕ) Status)
+    → MakesText (IsSummaryOn bank (workload_of seed count)) (EndsAtLimit bank (workload_of seed count)) r
+    → MakesText (IsMadeSummary seed count) (EndsAtLimit bank (workload_of seed count)) r
+all_made seed count few (Ok text) summed = record { summary = summed; all_committed = made_summed seed count text few summed }
+all_made seed count few (Err Limit) summed = summed
+all_made seed count few (Err NoMemory) summed = summed
+all_made seed count few (Err _) summed = absurd summed

@@ -37,18 +37,6 @@ words_of (Make seed count) = codes "make" ∷ decimal seed ∷ decimal count ∷
 words_of (Verify cat work report) = codes "verify" ∷ cat ∷ work ∷ report ∷ []
 words_of (Advise cat) = codes "advise" ∷ cat ∷ []
 
--- the names of the files that a command of this form opens, in this order
-abbrev pub files_of : Form → List (List ℕ)
-files_of (Check cat) = cat ∷ []
-files_of (Graph cat) = cat ∷ []
-files_of (Table cat) = cat ∷ []
-files_of (Run cat work) = cat ∷ work ∷ []
-files_of (Plain cat work) = cat ∷ work ∷ []
-files_of (Control file) = file ∷ []
-files_of (Make seed count) = []
-files_of (Verify cat work report) = cat ∷ work ∷ report ∷ []
-files_of (Advise cat) = cat ∷ []
-
 -- the words are none of the forms
 abbrev pub IsNoForm : List (List ℕ) → Type 0
 IsNoForm ws = (f : Form) → IsForm f → ws ≡ words_of f → ⊥

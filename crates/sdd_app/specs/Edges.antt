@@ -22,7 +22,7 @@ two_words a b = a ++ (codes " " ++ b)
 abbrev pub block_word : ℕ → List ℕ
 block_word block = if block == 0 then codes "-" else decimal block
 
--- the end of a line
+-- the end of a line, with the number of the edge's block
 abbrev pub block_end : ℕ → List ℕ
 block_end block = codes " block " ++ (block_word block ++ codes "\n")
 

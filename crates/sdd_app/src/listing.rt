@@ -1,13 +1,8 @@
 //! The commands that print what is in a catalogue.
-ghost use Rattle.std.specs.Prelude.{◌≡◌, ◌+◌, ◌∷◌, [], ℕ, List, IfOk, OnOk, IfErr, IsSome, Some};
-ghost use Rattle.sdd_lang.specs.base.declared.files.ShelfFile.{ShelfFile};
-ghost use Rattle.sdd_lang.specs.base.declared.limits.TheConstants.{MAX_CATALOGUE_BYTES};
-ghost use Rattle.sdd_lang.specs.base.Outside.{Rose, find_file};
-ghost use Rattle.sdd_app.specs.Answer.{ComesToListing};
-ghost use Rattle.sdd_shell.specs.NamedFiles.{OverCatalogue};
-ghost use Rattle.sdd_shell.specs.Endings.{FilesRead, ToItsEnd, ToItsLimit};
+ghost use Rattle.std.specs.Prelude.{◌≡◌, IfOk};
+ghost use Rattle.sdd_shell.specs.Requests.{AnswersRequest, about_catalogue};
+ghost use Rattle.sdd_shell.specs.States.{shelf_by};
 ghost use Rattle.sdd_app.specs.Listing.{Tells};
-ghost use Rattle.sdd_shell.specs.Verdict.{Answers, AtFault, ComesOfFiles};
 
 use crate::check::counts;
 use crate::edges::{graph_text, table_text};
@@ -59,15 +54,9 @@ pub fn listing_answer<S: Shelf>(
     catalogue: &str,
     listing: Listing,
 ) -> Result<Pages, Status>
-    ensures answered { (fs : List ShelfFile) → S.files shelf.old ≡ Some fs
-        → Answers result (λ v. v) (OverCatalogue fs catalogue.now (ComesToListing listing)) }
-    ensures ended { OnOk result (FilesRead (S.files shelf.old) (S.is_open shelf.old) (S.is_open shelf.new) (S.opened shelf.new) (ToItsEnd catalogue.now ∷ [])) }
-    ensures at_fault { IfErr result (AtFault (FilesRead (S.files shelf.old) (S.is_open shelf.old)
-        (S.is_open shelf.new) (S.opened shelf.new) (ToItsLimit MAX_CATALOGUE_BYTES catalogue.now ∷ [])) ⊥) }
-    ensures fault { IfErr result (λ s. s ≡ Status.ReadFault → Rose (S.faults shelf.old) (S.faults shelf.new)) }
-    ensures errors { IfErr result ComesOfFiles }
-    ensures surely { (free : ℕ) (fs : List ShelfFile) → S.sure shelf.old (free + 1) → S.files shelf.old ≡ Some fs → IsSome (find_file fs catalogue.now)
-        → IfErr result (λ s. s ≡ Status.ReadFault → ⊥) × (S.faults shelf.new ≡ S.faults shelf.old) }
+    ensures { AnswersRequest (about_catalogue catalogue.now (Tells listing))
+        (shelf_by S.files S.is_open S.opened S.faults S.sure shelf.old)
+        (shelf_by S.files S.is_open S.opened S.faults S.sure shelf.new) result }
 {
     let catalogue = accepted_catalogue(alloc, shelf, catalogue)?;
     Ok(Pages::of(alloc, print_listing(alloc, &catalogue, listing)?))

@@ -1,9 +1,10 @@
 //! The command that runs made input.
-ghost use Rattle.std.specs.Prelude.{◌≡◌, ◌≤◌, IfErr};
+ghost use Rattle.std.specs.Prelude.{◌≤◌};
 ghost use Rattle.sdd_lang.specs.All.{MAX_TXNS};
+ghost use Rattle.sdd_verified.specs.run.Runs.{EndsAtLimit, IsSummaryOn};
 ghost use Rattle.sdd_verified.specs.script.Valid.{IsValid};
-ghost use Rattle.sdd_app.specs.Answer.{ComesToMade, ComesToSummary};
-ghost use Rattle.sdd_shell.specs.Verdict.{Answers, AtFault, ComesOfFiles};
+ghost use Rattle.sdd_app.specs.Made.{IsMadeSummary, MadeEndsAtLimit};
+ghost use Rattle.sdd_shell.specs.Verdict.{MakesText};
 
 use sdd_lang::{Catalogue, Pages};
 use sdd_shell::Status;
@@ -13,10 +14,7 @@ use std::alloc::Global;
 /// The summary of the run of the workload.
 fn summed_up(alloc: Global, catalogue: &Catalogue, work: Workload) -> Result<Pages, Status>
     requires { IsValid catalogue.now work }
-    ensures answered { Answers result (λ v. v) (ComesToSummary catalogue.now work) }
-    ensures errors { IfErr result ComesOfFiles }
-    ensures no_fault { IfErr result (AtFault ⊥ ⊥) }
-    ensures read { IfErr result (λ s. s ≡ Status.ReadFault → ⊥) }
+    ensures { MakesText (IsSummaryOn catalogue.now work) (EndsAtLimit catalogue.now work) result }
 {
     match run_summary(alloc, catalogue, work) {
         Ok(text) => Ok(Pages::of(alloc, text)),
@@ -29,10 +27,7 @@ fn summed_up(alloc: Global, catalogue: &Catalogue, work: Workload) -> Result<Pag
 /// with so many transactions.
 pub fn make_answer(alloc: Global, seed: u32, count: u32) -> Result<Pages, Status>
     requires { count ≤ MAX_TXNS }
-    ensures answered { Answers result (λ v. v) (ComesToMade seed count) }
-    ensures errors { IfErr result ComesOfFiles }
-    ensures no_fault { IfErr result (AtFault ⊥ ⊥) }
-    ensures read { IfErr result (λ s. s ≡ Status.ReadFault → ⊥) }
+    ensures { MakesText (IsMadeSummary seed count) (MadeEndsAtLimit seed count) result }
 {
     law_workload_allowed(seed, count);
     let catalogue = bank(alloc)?;

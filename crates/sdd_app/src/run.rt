@@ -1,15 +1,12 @@
 //! The call of the program.
-ghost use Rattle.std.specs.Prelude.{◌≡◌, ◌≤◌, ℕ, List, length, map, string_bytes, OnOk, IfErr};
-ghost use Rattle.sdd_lang.specs.base.declared.files.ShelfFile.{ShelfFile};
-ghost use Rattle.sdd_lang.specs.base.Outside.{Rose};
-ghost use Rattle.sdd_shell.specs.Calls.{AnswersAs, EndsAs, IsOverFiles, OpensNoFile, OpensNone};
-ghost use Rattle.sdd_shell.specs.Endings.{FilesRead, HasRoom};
+ghost use Rattle.std.specs.Prelude.{◌≡◌, map, string_bytes};
+ghost use Rattle.sdd_shell.specs.Calls.{AnswersAs, EndsAs, OpensNoFile};
+ghost use Rattle.sdd_shell.specs.NamedFiles.{OpensNone};
+ghost use Rattle.sdd_shell.specs.Requests.{AnswersRequest};
 ghost use Rattle.sdd_shell.specs.States.{shelf_by, sink_by};
-ghost use Rattle.sdd_shell.specs.Verdict.{Answers, AtFault, ComesOfFiles};
-ghost use Rattle.sdd_app.specs.Answer.{FilesOf, FormComesTo};
+ghost use Rattle.sdd_app.specs.Answer.{request_of};
 ghost use Rattle.sdd_app.specs.Calls.{sdd1_call};
-ghost use Rattle.sdd_app.specs.Command.{IsForm, files_of, form_of};
-ghost use Rattle.sdd_app.specs.Endings.{endings_at_catalogue, endings_at_workload, endings_of};
+ghost use Rattle.sdd_app.specs.Command.{IsForm, form_of};
 
 use crate::command::{Command, parse_words};
 use crate::control_file::control_answer;
@@ -31,21 +28,10 @@ fn carry_out_command<S: Shelf>(
     shelf: &mut S,
 ) -> Result<Pages, Status>
     requires { IsForm (form_of command) }
-    ensures answered { (fs : List ShelfFile) → IsOverFiles (S.files shelf.old) fs (files_of (form_of command.entry))
-        → Answers result (λ v. v) (FormComesTo fs (form_of command.entry)) }
-    ensures ended { OnOk result (FilesRead (S.files shelf.old) (S.is_open shelf.old) (S.is_open shelf.new)
-        (S.opened shelf.new) (endings_of (form_of command.entry))) }
-    ensures at_fault { IfErr result (AtFault
-        (FilesRead (S.files shelf.old) (S.is_open shelf.old) (S.is_open shelf.new) (S.opened shelf.new)
-        (endings_at_catalogue (form_of command.entry)))
-        (FilesRead (S.files shelf.old) (S.is_open shelf.old) (S.is_open shelf.new) (S.opened shelf.new)
-        (endings_at_workload (form_of command.entry)))) }
-    ensures fault { IfErr result (λ s. s ≡ Status.ReadFault → Rose (S.faults shelf.old) (S.faults shelf.new)) }
-    ensures errors { IfErr result ComesOfFiles }
-    ensures untouched { OpensNone (files_of (form_of command.entry)) → shelf.new ≡ shelf.old }
-    ensures surely { (free : ℕ) (fs : List ShelfFile) → HasRoom (S.sure shelf.old) free (length (files_of (form_of command.entry)))
-        → IsOverFiles (S.files shelf.old) fs (files_of (form_of command.entry)) → FilesOf fs (form_of command.entry)
-        → IfErr result (λ s. s ≡ Status.ReadFault → ⊥) × (S.faults shelf.new ≡ S.faults shelf.old) }
+    ensures answers { AnswersRequest (request_of (form_of command.entry))
+        (shelf_by S.files S.is_open S.opened S.faults S.sure shelf.old)
+        (shelf_by S.files S.is_open S.opened S.faults S.sure shelf.new) result }
+    ensures untouched { OpensNone (request_of (form_of command.entry)).names → shelf.new ≡ shelf.old }
 {
     match command {
         Command::Check(catalogue) => listing_answer(alloc, shelf, catalogue, Listing::Counts),

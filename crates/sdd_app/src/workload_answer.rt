@@ -1,14 +1,12 @@
 //! The commands that run a workload.
-ghost use Rattle.std.specs.Prelude.{◌≡◌, ◌+◌, ◌∷◌, [], ℕ, List, OnOk, IfErr, Some};
-ghost use Rattle.sdd_lang.specs.base.declared.files.ShelfFile.{ShelfFile};
-ghost use Rattle.sdd_lang.specs.All.{MAX_WORKLOAD_BYTES};
-ghost use Rattle.sdd_lang.specs.base.declared.limits.TheConstants.{MAX_CATALOGUE_BYTES};
-ghost use Rattle.sdd_lang.specs.base.Outside.{Rose};
+ghost use Rattle.std.specs.Prelude.{◌≡◌};
+ghost use Rattle.sdd_verified.specs.run.Runs.{EndsAtLimit, IsReportOn};
 ghost use Rattle.sdd_verified.specs.script.Valid.{IsValid};
-ghost use Rattle.sdd_app.specs.Answer.{ComesToPlain, ComesToReport, ComesToRun};
-ghost use Rattle.sdd_shell.specs.NamedFiles.{HasFiles, OverCatalogue};
-ghost use Rattle.sdd_shell.specs.Endings.{FilesRead, ToItsEnd, ToItsLimit};
-ghost use Rattle.sdd_shell.specs.Verdict.{Answers, AtFault, ComesOfFiles};
+ghost use Rattle.sdd_shell.specs.OverWorkload.{MakesNoRun};
+ghost use Rattle.sdd_shell.specs.Requests.{AnswersRequest, about_workload};
+ghost use Rattle.sdd_shell.specs.States.{shelf_by};
+ghost use Rattle.sdd_shell.specs.Verdict.{MakesText};
+ghost use Rattle.sdd_app.specs.Answer.{IsSerialText};
 
 use crate::serially::serial_text;
 use sdd_lang::{Catalogue, Pages, Shelf};
@@ -19,10 +17,7 @@ use std::alloc::Global;
 /// The report on the run of the workload.
 fn report_pages_of(alloc: Global, catalogue: &Catalogue, work: Workload) -> Result<Pages, Status>
     requires { IsValid catalogue.now work }
-    ensures answered { Answers result (λ v. v) (ComesToReport catalogue.now work) }
-    ensures errors { IfErr result ComesOfFiles }
-    ensures no_fault { IfErr result (AtFault ⊥ ⊥) }
-    ensures read { IfErr result (λ s. s ≡ Status.ReadFault → ⊥) }
+    ensures { MakesText (IsReportOn catalogue.now work) (EndsAtLimit catalogue.now work) result }
 {
     match run_report(alloc, catalogue, work) {
         Ok(text) => Ok(text),
@@ -38,20 +33,9 @@ pub fn plain_answer<S: Shelf>(
     catalogue: &str,
     workload: &str,
 ) -> Result<Pages, Status>
-    ensures answered { (fs : List ShelfFile) → S.files shelf.old ≡ Some fs
-        → Answers result (λ v. v) (OverCatalogue fs catalogue.now (ComesToPlain fs workload.now)) }
-    ensures ended { OnOk result (FilesRead (S.files shelf.old) (S.is_open shelf.old) (S.is_open shelf.new) (S.opened shelf.new)
-        (ToItsEnd catalogue.now ∷ ToItsEnd workload.now ∷ [])) }
-    ensures at_fault { IfErr result (AtFault
-        (FilesRead (S.files shelf.old) (S.is_open shelf.old) (S.is_open shelf.new) (S.opened shelf.new)
-        (ToItsLimit MAX_CATALOGUE_BYTES catalogue.now ∷ []))
-        (FilesRead (S.files shelf.old) (S.is_open shelf.old) (S.is_open shelf.new) (S.opened shelf.new)
-        (ToItsEnd catalogue.now ∷ ToItsLimit MAX_WORKLOAD_BYTES workload.now ∷ []))) }
-    ensures fault { IfErr result (λ s. s ≡ Status.ReadFault → Rose (S.faults shelf.old) (S.faults shelf.new)) }
-    ensures errors { IfErr result ComesOfFiles }
-    ensures surely { (free : ℕ) (fs : List ShelfFile) → S.sure shelf.old (free + 1 + 1) → S.files shelf.old ≡ Some fs
-        → HasFiles fs catalogue.now workload.now (λ _. Unit {0})
-        → IfErr result (λ s. s ≡ Status.ReadFault → ⊥) × (S.faults shelf.new ≡ S.faults shelf.old) }
+    ensures { AnswersRequest (about_workload catalogue.now workload.now IsSerialText MakesNoRun)
+        (shelf_by S.files S.is_open S.opened S.faults S.sure shelf.old)
+        (shelf_by S.files S.is_open S.opened S.faults S.sure shelf.new) result }
 {
     let catalogue = accepted_catalogue(alloc, shelf, catalogue)?;
     let work = accepted_workload(alloc, shelf, workload, &catalogue)?;
@@ -65,20 +49,9 @@ pub fn run_answer<S: Shelf>(
     catalogue: &str,
     workload: &str,
 ) -> Result<Pages, Status>
-    ensures answered { (fs : List ShelfFile) → S.files shelf.old ≡ Some fs
-        → Answers result (λ v. v) (OverCatalogue fs catalogue.now (ComesToRun fs workload.now)) }
-    ensures ended { OnOk result (FilesRead (S.files shelf.old) (S.is_open shelf.old) (S.is_open shelf.new) (S.opened shelf.new)
-        (ToItsEnd catalogue.now ∷ ToItsEnd workload.now ∷ [])) }
-    ensures at_fault { IfErr result (AtFault
-        (FilesRead (S.files shelf.old) (S.is_open shelf.old) (S.is_open shelf.new) (S.opened shelf.new)
-        (ToItsLimit MAX_CATALOGUE_BYTES catalogue.now ∷ []))
-        (FilesRead (S.files shelf.old) (S.is_open shelf.old) (S.is_open shelf.new) (S.opened shelf.new)
-        (ToItsEnd catalogue.now ∷ ToItsLimit MAX_WORKLOAD_BYTES workload.now ∷ []))) }
-    ensures fault { IfErr result (λ s. s ≡ Status.ReadFault → Rose (S.faults shelf.old) (S.faults shelf.new)) }
-    ensures errors { IfErr result ComesOfFiles }
-    ensures surely { (free : ℕ) (fs : List ShelfFile) → S.sure shelf.old (free + 1 + 1) → S.files shelf.old ≡ Some fs
-        → HasFiles fs catalogue.now workload.now (λ _. Unit {0})
-        → IfErr result (λ s. s ≡ Status.ReadFault → ⊥) × (S.faults shelf.new ≡ S.faults shelf.old) }
+    ensures { AnswersRequest (about_workload catalogue.now workload.now IsReportOn EndsAtLimit)
+        (shelf_by S.files S.is_open S.opened S.faults S.sure shelf.old)
+        (shelf_by S.files S.is_open S.opened S.faults S.sure shelf.new) result }
 {
     let catalogue = accepted_catalogue(alloc, shelf, catalogue)?;
     let work = accepted_workload(alloc, shelf, workload, &catalogue)?;

@@ -28,12 +28,6 @@ words_of (OfCatalogue question cat) = word_of question ∷ cat ∷ []
 words_of (RobustWorkload cat work) = codes "robust" ∷ cat ∷ work ∷ []
 words_of (Certify cat work report) = codes "certify" ∷ cat ∷ work ∷ report ∷ []
 
--- the names of the files that a call of this form opens, in this order
-abbrev pub files_of : Form → List (List ℕ)
-files_of (OfCatalogue question cat) = cat ∷ []
-files_of (RobustWorkload cat work) = cat ∷ work ∷ []
-files_of (Certify cat work report) = cat ∷ work ∷ report ∷ []
-
 -- the words are none of the forms
 abbrev pub IsNoForm : List (List ℕ) → Type 0
 IsNoForm words = (form : Form) → words ≡ words_of form → ⊥

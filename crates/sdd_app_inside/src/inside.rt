@@ -1,16 +1,13 @@
 //! The call of the program that shows what happens inside a run.
-ghost use Rattle.std.specs.Prelude.{◌≡◌, ◌+◌, ◌∷◌, [], ℕ, List, map, string_bytes, OnOk, IfErr, IfNone, IfSome, Some};
-ghost use Rattle.sdd_lang.specs.base.declared.files.ShelfFile.{ShelfFile};
-ghost use Rattle.sdd_lang.specs.base.declared.limits.TheConstants.{MAX_CATALOGUE_BYTES};
-ghost use Rattle.sdd_lang.specs.base.Outside.{Rose};
-ghost use Rattle.sdd_lang.specs.All.{MAX_WORKLOAD_BYTES};
+ghost use Rattle.std.specs.Prelude.{◌≡◌, ◌∷◌, [], map, string_bytes, IfNone, IfSome};
 ghost use Rattle.sdd_script.specs.Valid.{IsValid};
+ghost use Rattle.sdd_watch.specs.run.Runs.{EndsAtLimit};
+ghost use Rattle.sdd_watch.specs.Text.{IsInsideOf};
 ghost use Rattle.sdd_shell.specs.Calls.{AnswersAs, EndsAs};
-ghost use Rattle.sdd_shell.specs.Endings.{FilesRead, ToItsEnd, ToItsLimit};
-ghost use Rattle.sdd_shell.specs.NamedFiles.{HasFiles, OverCatalogue};
+ghost use Rattle.sdd_shell.specs.Requests.{AnswersRequest, about_workload};
 ghost use Rattle.sdd_shell.specs.States.{shelf_by, sink_by};
-ghost use Rattle.sdd_shell.specs.Verdict.{Answers, AtFault, ComesOfFiles};
-ghost use Rattle.sdd_app_inside.specs.Inside.{AreNotTwo, ComesToInside, ComesToText, inside_call};
+ghost use Rattle.sdd_shell.specs.Verdict.{MakesText};
+ghost use Rattle.sdd_app_inside.specs.Inside.{AreNotTwo, inside_call};
 
 use sdd_lang::{Catalogue, Pages, Shelf, Sink};
 use sdd_script::Workload;
@@ -23,10 +20,7 @@ const USAGE: &[u8] = b"usage: sdd1_inside CAT WORK\n";
 /// The text of what happens inside the run of the workload.
 fn inside_pages(alloc: Global, catalogue: &Catalogue, work: Workload) -> Result<Pages, Status>
     requires { IsValid catalogue.now work }
-    ensures answered { Answers result (λ v. v) (ComesToInside catalogue.now work) }
-    ensures errors { IfErr result ComesOfFiles }
-    ensures no_fault { IfErr result (AtFault ⊥ ⊥) }
-    ensures read { IfErr result (λ s. s ≡ Status.ReadFault → ⊥) }
+    ensures { MakesText (IsInsideOf catalogue.now work) (EndsAtLimit catalogue.now work) result }
 {
     match inside_text(alloc, catalogue, work) {
         Ok(text) => Ok(Pages::of(alloc, text)),
@@ -42,20 +36,9 @@ fn inside_answer<S: Shelf>(
     catalogue: &str,
     workload: &str,
 ) -> Result<Pages, Status>
-    ensures answered { (fs : List ShelfFile) → S.files shelf.old ≡ Some fs
-        → Answers result (λ v. v) (OverCatalogue fs catalogue.now (ComesToText fs workload.now)) }
-    ensures ended { OnOk result (FilesRead (S.files shelf.old) (S.is_open shelf.old) (S.is_open shelf.new) (S.opened shelf.new)
-        (ToItsEnd catalogue.now ∷ ToItsEnd workload.now ∷ [])) }
-    ensures at_fault { IfErr result (AtFault
-        (FilesRead (S.files shelf.old) (S.is_open shelf.old) (S.is_open shelf.new) (S.opened shelf.new)
-        (ToItsLimit MAX_CATALOGUE_BYTES catalogue.now ∷ []))
-        (FilesRead (S.files shelf.old) (S.is_open shelf.old) (S.is_open shelf.new) (S.opened shelf.new)
-        (ToItsEnd catalogue.now ∷ ToItsLimit MAX_WORKLOAD_BYTES workload.now ∷ []))) }
-    ensures fault { IfErr result (λ s. s ≡ Status.ReadFault → Rose (S.faults shelf.old) (S.faults shelf.new)) }
-    ensures errors { IfErr result ComesOfFiles }
-    ensures surely { (free : ℕ) (fs : List ShelfFile) → S.sure shelf.old (free + 1 + 1) → S.files shelf.old ≡ Some fs
-        → HasFiles fs catalogue.now workload.now (λ _. Unit {0})
-        → IfErr result (λ s. s ≡ Status.ReadFault → ⊥) × (S.faults shelf.new ≡ S.faults shelf.old) }
+    ensures { AnswersRequest (about_workload catalogue.now workload.now IsInsideOf EndsAtLimit)
+        (shelf_by S.files S.is_open S.opened S.faults S.sure shelf.old)
+        (shelf_by S.files S.is_open S.opened S.faults S.sure shelf.new) result }
 {
     let catalogue = accepted_catalogue(alloc, shelf, catalogue)?;
     let work = accepted_workload(alloc, shelf, workload, &catalogue)?;

@@ -2,8 +2,7 @@
 //! that are handed in.
 //!
 //! `run_inside` is the one contract to the layer above. Its words are the names of a catalogue and of a
-//! workload; what it comes to is defined in `specs/Inside.antt`: the first fault of the catalogue or of
-//! the workload, or the text of what happens inside the run (`sdd_watch`). How a call ends, and how its
+//! workload; they ask for the text of what happens inside the run (`specs/Inside.antt`, `sdd_watch`). How a call ends, and how its
 //! files are read and judged, is `sdd_shell`'s.
 #![tactic(auto)]
 

@@ -1,5 +1,6 @@
 -- A settle has few rounds: of four in a row, after which another begins, one puts a message.
-use Rattle.sdd_bounds.proofs.All.{Act, Bool, Call, Deliver, Does, Entry, Event, Hand, Input, IsLawful, List, Log, Lose, Mark, Msg, Notes, None, Option, Redeclare, Redeclares, Repeat, Resend, Round, Settle, Site, Some, Submitted, [], after_mark, all_links, ap, append_assoc, append-nil, arith, calls_by, calls_of, dec_le, false, false≢true, from_event, inl, inr, left, length, mark_from, mark_of, next, next_is_of_events, puts, quiet, refl, round, rounds, same_Some, sends_of_act, subst, suc, sym, tail_of, true, zero, ℕ, ◌*◌, ◌++◌, ◌+◌, ◌<◌, ◌∙◌, ◌∷◌, ◌≡◌, ◌≤◌, ◌⊎◌}
+use Rattle.sdd_bounds.proofs.All.{Act, Bool, Call, Deliver, Does, Entry, Event, Hand, Input, IsLawful, List, Log, Lose, Mark, Msg, Notes, Redeclare, Redeclares, Repeat, Resend, Round, Settle, Site, Some, Submitted, [], after_mark, all_links, ap, append-nil, append_assoc, arith, calls_by, calls_of, dec_le, false, false≢true, from_event, left, length, mark_from, mark_of, next, next_is_of_events, puts, quiet, refl, round, rounds, same_Some, sends_of_act, subst, suc, sym, tail_of, true, zero, ℕ, ◌*◌, ◌++◌, ◌+◌, ◌∙◌, ◌∷◌, ◌≡◌, ◌≤◌}
+use Rattle.sdd_obligations.proofs.logs.AsLists.{events_left}
 use Rattle.sdd_bounds.proofs.NextRound.{AreAtStage, after_round, carried_append, none_yet, quiet_at_last}
 use Rattle.sdd_bounds.specs.RoundsOnLinks.{all_carried_out, carried_out}
 use Rattle.sdd_bounds.specs.SettleRounds.{AreBetweenEvents, HasFewRounds, messages_put}
@@ -163,5 +164,7 @@ has_rounds g (e ∷ later) log h kept =
 
 pub few_rounds : (g : Input) (later log : Log) → IsLawful g (later ++ log) → AreBetweenEvents g later log → HasFewRounds later
 few_rounds g later log h same =
-    let r = has_rounds g later log h (omega (arith, ap length same)) in
+    let lists : (left g.events (later ++ log)).0 ≡ (left g.events log).0 =
+    events_left g.events (later ++ log) ∙ same ∙ sym (events_left g.events log) in
+    let r = has_rounds g later log h (omega (arith, ap length lists)) in
     omega (arith, r.rounds_are, r.few)

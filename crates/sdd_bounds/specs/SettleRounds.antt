@@ -1,6 +1,7 @@
 -- How many rounds a settle has: no more than follow from the messages that are put within it.
 use Rattle.std.specs.Prelude.{ℕ, suc, ◌*◌, ◌+◌, ◌≡◌, ◌≤◌, [], ◌∷◌, ◌++◌, length}
-use Rattle.sdd_obligations.specs.All.{Does, Input, Log, left, sends_of_act}
+use Rattle.sdd_obligations.specs.All.{Does, Input, Log, sends_of_act}
+use Rattle.sdd_obligations.specs.logs.Marks.{ahead, events_ahead}
 use Rattle.sdd_progress.specs.Rounds.{rounds}
 
 -- how many messages the sites put on links
@@ -12,7 +13,7 @@ messages_put (_ ∷ log) = messages_put log
 -- Between two moments the same events of the schedule are left to come: so what lies between is of one settle, or of the
 -- rounds before a class list is put in force, or of what one event makes due.
 abbrev pub AreBetweenEvents : Input → Log → Log → Type 0
-AreBetweenEvents given later log = (left given.events (later ++ log)).0 ≡ (left given.events log).0
+AreBetweenEvents given later log = events_ahead (ahead given.events (later ++ log)) ≡ events_ahead (ahead given.events log)
 
 -- at most four rounds begin, and four more for each message that is put
 abbrev pub HasFewRounds : Log → Type 0

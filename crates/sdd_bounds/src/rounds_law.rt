@@ -1,5 +1,6 @@
-ghost use Rattle.std.specs.Prelude.{◌≡◌, ◌≤◌, ◌*◌, ◌+◌, ◌++◌, ◌∷◌, ℕ, suc, true, List, []};
-ghost use Rattle.sdd_obligations.specs.All.{Call, Event, Input, IsLawful, Log, Msg, Settle, left, links, quiet};
+ghost use Rattle.std.specs.Prelude.{◌≡◌, ◌≤◌, ◌*◌, ◌+◌, ◌++◌, ◌∷◌, ℕ, suc, true, List};
+ghost use Rattle.sdd_obligations.specs.All.{Call, Event, Input, IsLawful, Log, Msg, Settle, links, quiet};
+ghost use Rattle.sdd_obligations.specs.logs.Marks.{BetweenRounds, ahead, events_ahead};
 ghost use Rattle.sdd_progress.specs.Rounds.{rounds};
 ghost use Rattle.sdd_bounds.specs.RoundsOnLinks.{after_rounds};
 ghost use Rattle.sdd_bounds.specs.SettleRounds.{AreBetweenEvents, HasFewRounds, messages_put};
@@ -19,7 +20,7 @@ pub fn law_few_rounds()
     ensures between { (given : Input) (later log : Log) → IsLawful given (later ++ log)
         → AreBetweenEvents given later log → HasFewRounds later }
     ensures in_settle { (given : Input) (events : List Event) (later log : Log) → IsLawful given (later ++ log)
-        → left given.events log ≡ (Settle ∷ events, [])
-        → (left given.events (later ++ log)).0 ≡ Settle ∷ events
+        → ahead given.events log ≡ BetweenRounds (Settle ∷ events)
+        → events_ahead (ahead given.events (later ++ log)) ≡ Settle ∷ events
         → rounds later ≤ 4 * (messages_put later + 1) }
 {}

@@ -1,7 +1,12 @@
+mod BeforeFirst
+mod BytesRead
+mod EachMoment
 mod FlightsLeft
 mod FlightsRead
 mod FoundIn
 mod LinksRead
+mod OfCatalogue
+mod OwnNames
 mod PacketsRead
 mod Parts
 mod PipesThere
@@ -9,4 +14,7 @@ mod PipesRead
 mod QueueMoves
 mod QueueNumbers
 mod QueuesRead
+mod Resting
+mod RunRead
+mod TextRead
 mod WholeRead

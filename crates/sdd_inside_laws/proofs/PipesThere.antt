@@ -9,7 +9,7 @@ use Rattle.sdd_obligations.specs.dm.Copies.{classes_of}
 use Rattle.sdd_watch.specs.Moments.{all_pipes, pipes_at_module}
 use Rattle.sdd_watch.proofs.PipesVisited.{IsPipeOf}
 
-at_flat : {A B : Type 0} (f : A → List B) (Q : B → Type 0) (xs : List A)
+pub at_flat : {A B : Type 0} (f : A → List B) (Q : B → Type 0) (xs : List A)
     → ((k : ℕ) (x : A) → slice_get xs k ≡ Some x → (j : ℕ) (y : B) → slice_get (f x) j ≡ Some y → Q y)
     → (i : ℕ) (y : B) → slice_get (flat_map f xs) i ≡ Some y → Q y
 at_flat f Q [] h i y e = cc

@@ -1,2 +1,4 @@
 pub mod Reader
+pub mod TextReader
+pub mod WholeRun
 pub mod WorkedLines

@@ -1,8 +1,18 @@
-ghost use Rattle.std.specs.Prelude.{◌≡◌};
-ghost use Rattle.sdd_obligations.specs.All.{Input, IsGood, Log};
-ghost use Rattle.sdd_inside_laws.specs.Reader.{known, read};
-ghost use Rattle.sdd_watch.specs.Text.{change};
+ghost use Rattle.std.specs.Prelude.{ℕ, ◌≡◌, List};
+ghost use Rattle.sdd_obligations.specs.All.{Catalogue, Input, IsGood, IsSoundCatalogue, Log, Txn};
+ghost use Rattle.sdd_inside.specs.Lines.{line};
+ghost use Rattle.sdd_inside.specs.declared.delta.Delta.{Delta};
+ghost use Rattle.sdd_inside_laws.specs.Reader.{Known, known, read};
+ghost use Rattle.sdd_inside_laws.specs.TextReader.{AreOfCatalogue, HaveOwnNames, by_names, read_told};
+ghost use Rattle.sdd_inside_laws.specs.WholeRun.{HasSmallLines, IsReadBack, IsReadFromBytes};
+ghost use Rattle.sdd_inside_read.specs.LineReader.{read_line};
+ghost use Rattle.sdd_inside_read.specs.Small.{HasSmallNumbers};
+ghost use Rattle.sdd_obligations.specs.catalog.Naming.{AreNamed};
+ghost use Rattle.sdd_watch.specs.Text.{IsInsideOf, change};
 ghost use Rattle.sdd_watch.specs.Watching.{IsBetween};
+ghost use Rattle.sdd_watch.specs.run.Runs.{input};
+ghost use Rattle.sdd_watch.specs.run.script.Valid.{IsValid};
+ghost use Rattle.sdd_watch.specs.run.script.declared.workload.Workload.{Workload};
 
 /// A law: what a reader knew before an event and the line of the event give what there is after it. Of each link
 /// the flight, which is the old one without the packet that the event took, with what was put behind it; the
@@ -12,4 +22,34 @@ ghost use Rattle.sdd_watch.specs.Watching.{IsBetween};
 pub fn law_read_back()
     ensures { (given : Input) (old new : Log) → IsGood given → IsBetween given old new
         → read (change given old new) (known given old) ≡ known given new }
+{}
+
+/// A law: a reader of the text of a run begins with nothing on the links and nothing in queues and pipes, and
+/// reads the lines one after the other. After each he has what there is when its event is over, and after the
+/// last what there is at the end of the run.
+pub fn law_read_run()
+    ensures { (catalogue : Catalogue) (work : Workload) (text : List ℕ) → IsSoundCatalogue catalogue
+        → IsValid catalogue work → (inside : IsInsideOf catalogue work text)
+        → IsReadBack (input inside.of_run) inside.of_run.log text }
+{}
+
+/// A law: a reader of the bytes of a line, who knows classes and transactions by their names and messages by what
+/// the text tells of them, has after it what a reader of the change has. Classes have names of their own, and the
+/// numbers that are read have 64 bits at most.
+pub fn law_read_bytes()
+    ensures { (catalogue : Catalogue) (txns : List Txn) (change : Delta) (before : Known) → HaveOwnNames catalogue
+        → AreOfCatalogue catalogue change before → HasSmallNumbers change
+        → read_told (read_line (line catalogue txns change)) (by_names catalogue txns before)
+        ≡ by_names catalogue txns (read change before) }
+{}
+
+/// A law: the same of the bytes of the text. A reader cuts it into lines and these into their members, knows
+/// classes and transactions by their names and messages by what the text tells of them, and begins with
+/// nothing; after each line he has what there is, by names. The numbers in the lines have 64 bits at most: so the
+/// program keeps them, but that those of every run have is a premise here, and proved of none.
+pub fn law_read_text()
+    ensures { (catalogue : Catalogue) (work : Workload) (text : List ℕ) → IsSoundCatalogue catalogue
+        → AreNamed catalogue → IsValid catalogue work → (inside : IsInsideOf catalogue work text)
+        → HasSmallLines (input inside.of_run) inside.of_run.log
+        → IsReadFromBytes (input inside.of_run) inside.of_run.log text }
 {}

@@ -84,7 +84,8 @@ pub use Rattle.sdd_invariants.specs.logs.Due.{does_at, due_by, hand_due, hand_nu
 pub use Rattle.sdd_invariants.specs.logs.Entries.{Does, Entry, Hand, Input, Log, Mark, Notes, Redeclares, Round, Submitted, history, marks, with_event}
 pub use Rattle.sdd_invariants.specs.logs.Lawful.{EndsByLimit, IsLawful, IsTheLog, IsWithin, is_past, puts_past}
 pub use Rattle.sdd_invariants.specs.logs.Locals.{IsEra, beginning, local_of, nth_era, redeclares, rows_of, setting_of, txn_at, with_era, with_submit, with_tick}
-pub use Rattle.sdd_invariants.specs.logs.Marks.{after_mark, bound_at, from_event, greatest_bound, left, mark_from, mark_of, next_mark}
+pub use Rattle.sdd_invariants.specs.logs.Left.{after_mark, left, mark_from, mark_of}
+pub use Rattle.sdd_invariants.specs.logs.Marks.{bound_at, from_event, greatest_bound, next_mark}
 pub use Rattle.sdd_invariants.specs.logs.Permitted.{AreSubmittedOnce, IsAllowed, IsDueAt, IsPermitted, by_event, by_link, by_mark, by_redeclare, by_round, by_site, submits_by, submits_in, was_marked}
 pub use Rattle.sdd_invariants.specs.logs.Resting.{AllLinked, AtEach, IsSiteOf}
 pub use Rattle.sdd_invariants.specs.logs.Snapshots.{base_of, frags_asked, is_at, items_of, snapshots, snapshots_at, with_item}

@@ -8,7 +8,8 @@ pub use Rattle.sdd_log.specs.Due.{does_at, due_by, hand_due, hand_number, hand_o
 pub use Rattle.sdd_log.specs.Entries.{Does, Entry, Hand, Input, Log, Mark, Notes, Redeclares, Round, Submitted, history, marks, with_event}
 pub use Rattle.sdd_log.specs.Lawful.{EndsByLimit, IsLawful, IsTheLog, IsWithin, is_past, puts_past}
 pub use Rattle.sdd_log.specs.Locals.{beginning, local_of, nth_era, redeclares, setting_of, txn_at, with_era, with_submit}
-pub use Rattle.sdd_log.specs.Marks.{after_mark, from_event, greatest_bound, left, mark_from, mark_of, next_mark}
+pub use Rattle.sdd_log.specs.Left.{after_mark, as_lists, left, mark_from, mark_of}
+pub use Rattle.sdd_log.specs.Marks.{Ahead, BetweenRounds, InRound, ahead, events_ahead, from_event, greatest_bound, mark_ahead, mark_between, next_mark, once_marked, once_quiet, with_round}
 pub use Rattle.sdd_log.specs.Permitted.{AreSubmittedOnce, IsAllowed, IsDueAt, IsPermitted, by_event, by_link, by_mark, by_redeclare, by_round, by_site, is_new_mark, one_if, submits_by, submits_in, was_marked}
 pub use Rattle.sdd_log.specs.Resting.{AllHanded, AllLinked, AtEach, EndsIn, IsFirst, IsLinkOf, IsMarked, Remain, Rests, TakesAway, TakesRounds, Waits, from_one, settles_before}
 pub use Rattle.sdd_log.specs.Snapshots.{base_of}

@@ -1,5 +1,6 @@
 -- The complete log of what was given, with one event more; rounds, and when they end.
-use Rattle.sdd_log.proofs.All.{Bool, EndsIn, Entry, Event, Input, IsLawful, List, Log, Mark, None, Option, Redeclare, Redeclares, Round, Settle, Some, TakesRounds, [], after_mark, all_links, ap, arith, calls_of, false, from_event, greatest_bound, hand_due, left, mark_due, mark_from, mark_of, next, next_mark, or_none, quiet, refl, round, settles_before, site_due, suc, tail_of, true, with_event, zero, ℕ, ◌++◌, ◌∙◌, ◌∷◌, ◌≡◌}
+use Rattle.sdd_log.proofs.All.{Bool, EndsIn, Entry, Event, Input, IsLawful, List, Log, Mark, None, Option, Redeclare, Redeclares, Round, Settle, Some, TakesRounds, [], after_mark, all_links, ap, arith, calls_of, false, from_event, greatest_bound, hand_due, left, mark_due, mark_from, mark_of, next, next_mark, or_none, quiet, refl, round, settles_before, site_due, suc, tail_of, true, with_event, zero, ℕ, ◌++◌, ◌∙◌, ◌∷◌, ◌≡◌, sym}
+use Rattle.sdd_log.proofs.AsLists.{next_mark_is}
 use Rattle.sdd_log.proofs.Grows.{grows, with_end}
 
 -- nothing is due at all
@@ -7,19 +8,27 @@ pub record IsOver (g : Input) (log : Log) : Type 0 where
   pub no_mark : mark_due g log ≡ None
   pub no_site : site_due g log ≡ None
   pub no_hand : hand_due g log ≡ None
-  pub no_next : next_mark g log ≡ None
+  pub no_next : mark_of g log (left g.events log) ≡ None
+
+no_mark_next : (g : Input) (log : Log) → next g log ≡ None → next_mark g log ≡ None
+no_mark_next g log e = grind (arith, or_none)
 
 pub complete_parts : (g : Input) (log : Log) → next g log ≡ None → IsOver g log
-complete_parts g log e = grind (arith, or_none)
+complete_parts g log e = record {
+  no_mark = grind (arith, or_none);
+  no_site = grind (arith, or_none);
+  no_hand = grind (arith, or_none);
+  no_next = sym (next_mark_is g log) ∙ no_mark_next g log e;
+}
 
--- nothing is due but a mark
-pub record IsFree (g : Input) (log : Log) : Type 0 where
+-- nothing is due but a mark, whatever came before
+pub record OnlyMarksAreDue (g : Input) (log : Log) : Type 0 where
   pub no_mark : mark_due g log ≡ None
   pub no_site : site_due g log ≡ None
   pub no_hand : hand_due g log ≡ None
 
-pub next_is_mark : (g : Input) (log : Log) (o : Option Entry) → IsFree g log → next_mark g log ≡ o → next g log ≡ o
-next_is_mark g log o f e = rw (f.no_mark, f.no_site, f.no_hand, e) refl
+pub next_is_mark : (g : Input) (log : Log) (o : Option Entry) → OnlyMarksAreDue g log → mark_of g log (left g.events log) ≡ o → next g log ≡ o
+next_is_mark g log o f e = rw (f.no_mark, f.no_site, f.no_hand) (next_mark_is g log ∙ e)
 
 -- an event that is carried out by itself
 abbrev pub IsSingle : Event → Type 0
@@ -50,7 +59,7 @@ by_left : (g : Input) (e : Event) (log : Log) (s : List Event × List Event) →
     → (mark_of (with_event g e) log (with_end e s) ≡ Some (Mark e)) × (after_mark (with_end e s) ≡ ([], []))
 by_left g e log s i h = grind (arith, more_marked, more_taken)
 
-free : (g : Input) (e : Event) (log : Log) → IsOver g log → IsFree (with_event g e) log
+free : (g : Input) (e : Event) (log : Log) → IsOver g log → OnlyMarksAreDue (with_event g e) log
 free g e log n = record { no_mark = n.no_mark; no_site = n.no_site; no_hand = n.no_hand }
 
 -- on a complete log an event more is next, and after it nothing is left
@@ -63,7 +72,7 @@ one_more g e log i l h =
     (next_is_mark (with_event g e) log (Some (Mark e)) (free g e log n) (ap (mark_of (with_event g e) log) s ∙ w.0), ap after_mark s ∙ w.1)
 
 -- no event is left
-pub none_left : (g : Input) (log : Log) → IsFree g log → left g.events log ≡ ([], []) → next g log ≡ None
+pub none_left : (g : Input) (log : Log) → OnlyMarksAreDue g log → left g.events log ≡ ([], []) → next g log ≡ None
 none_left g log f e = next_is_mark g log None f (ap (mark_of g log) e)
 
 -- an event more that is reached by rounds
@@ -103,27 +112,27 @@ none_behind (suc n) = none_behind n
 
 -- the next mark, where these events are left and the links are quiet or not
 mark_at : (g : Input) (log : Log) (q : Bool) (ws : List Event) (o : Option Entry) → left g.events log ≡ (ws, []) → quiet (all_links g) (calls_of log) ≡ q
-    → mark_from g log q (round (all_links g) (calls_of log)) ws ≡ o → next_mark g log ≡ o
+    → mark_from g log q (round (all_links g) (calls_of log)) ws ≡ o → mark_of g log (left g.events log) ≡ o
 mark_at g log q ws o e s h = ap (mark_of g log) e ∙ ap (λ b. mark_from g log b (round (all_links g) (calls_of log)) ws) s ∙ h
 
 -- where nothing is in flight and all is acknowledged, a settle ends
-pub settled : (g : Input) (log : Log) (ws : List Event) → IsFree g log
+pub settled : (g : Input) (log : Log) (ws : List Event) → OnlyMarksAreDue g log
     → left g.events log ≡ (ws, []) → EndsIn Settle ws → quiet (all_links g) (calls_of log) ≡ true → next g log ≡ None
 settled g log ws f e s q = grind (arith, next_is_mark, mark_at, settled_from)
 
 -- and a redeclare is next, after which nothing is left
-pub redeclare_next : (g : Input) (log : Log) (ws : List Event) → IsFree g log
+pub redeclare_next : (g : Input) (log : Log) (ws : List Event) → OnlyMarksAreDue g log
     → left g.events log ≡ (ws, []) → EndsIn Redeclare ws → quiet (all_links g) (calls_of log) ≡ true
     → (next g log ≡ Some (Redeclares (greatest_bound g log))) × (after_mark (left g.events log) ≡ ([], []))
 redeclare_next g log ws f e s q = grind (arith, next_is_mark, mark_at, listed_from, none_behind)
 
 -- else a round is next
-pub round_next : (g : Input) (log : Log) (ws : List Event) (e : Event) → IsFree g log
+pub round_next : (g : Input) (log : Log) (ws : List Event) (e : Event) → OnlyMarksAreDue g log
     → left g.events log ≡ (ws, []) → TakesRounds e → EndsIn e ws → quiet (all_links g) (calls_of log) ≡ false
     → next g log ≡ Some (Round (round (all_links g) (calls_of log)))
 round_next g log ws e f l t s q = grind (arith, next_is_mark, mark_at, round_from)
 
 -- in a round its next event is next
-pub in_round : (g : Input) (log : Log) (ws : List Event) (e : Event) (rest : List Event) → IsFree g log → left g.events log ≡ (ws, e ∷ rest)
+pub in_round : (g : Input) (log : Log) (ws : List Event) (e : Event) (rest : List Event) → OnlyMarksAreDue g log → left g.events log ≡ (ws, e ∷ rest)
     → next g log ≡ Some (Mark e)
 in_round g log ws e rest f l = next_is_mark g log (Some (Mark e)) f (ap (mark_of g log) l)

@@ -1,6 +1,7 @@
 -- Where the events submit each transaction at most once, the marks of a lawful log submit no number twice, so it is
 -- permitted.
-use Rattle.sdd_log.proofs.All.{Act, AreSubmittedOnce, Bool, Call, Deliver, Down, Entry, Event, Input, IsLawful, IsPermitted, List, Log, Lose, Mark, Msg, None, Option, Redeclare, Redeclares, Repeat, Resend, Round, Settle, Site, Some, Submit, Tick, Up, [], after_mark, ap, arith, cond, cons_option, does_at, due_by, eq-eqb, false, filter_map, flat_map, found_at, from_event, hand_number, hand_with, if◌then◌else◌, in_flight, is_new_mark, left, link, mark_due, mark_from, mark_of, next, next_mark, not, note_if, one_if, one_of, refl, replicate, resends_now, round, submits_by, submits_in, suc, true, was_marked, zero, ℕ, ◌++◌, ◌+◌, ◌==◌, ◌||◌, ◌∷◌, ◌≡◌, ◌≤◌}
+use Rattle.sdd_log.proofs.All.{AreSubmittedOnce, Bool, Call, Deliver, Down, Event, Input, IsLawful, IsPermitted, List, Log, Lose, Mark, Msg, None, Redeclare, Redeclares, Repeat, Resend, Round, Settle, Site, Some, Submit, Tick, Up, [], after_mark, ap, arith, cond, cons_option, eq-eqb, false, filter_map, flat_map, from_event, in_flight, is_new_mark, left, link, mark_from, mark_of, not, one_if, refl, replicate, resends_now, round, submits_by, submits_in, suc, true, was_marked, zero, ℕ, ◌++◌, ◌+◌, ◌==◌, ◌||◌, ◌∷◌, ◌≡◌, ◌≤◌}
+use Rattle.sdd_log.proofs.NextMark.{mark_is_next}
 use Rattle.sdd_log.proofs.Permitted.{HasNewMarks, permitted_if_new}
 
 -- how often transaction n is submitted by marks
@@ -30,57 +31,6 @@ none_delivered n (l ∷ ls) calls = none_in n _ _ (none_replicate n (in_flight (
 
 none_round : (n : ℕ) (ls : List (Site × Site)) (calls : List (Call Msg)) → submits_in n (round ls calls) ≡ 0
 none_round n ls calls = none_in n _ _ (none_resent n ls calls) (none_delivered n ls calls)
-
--- marks and rounds come from the events that are left
-abbrev IsFromLeft : Input → Log → Entry → Type 0
-IsFromLeft g log (Mark e) = mark_of g log (left g.events log) ≡ Some (Mark e)
-IsFromLeft g log (Round es) = mark_of g log (left g.events log) ≡ Some (Round es)
-IsFromLeft g log (Redeclares t) = mark_of g log (left g.events log) ≡ Some (Redeclares t)
-IsFromLeft g log _ = Unit {0}
-
-abbrev is_from : Entry → Bool
-is_from (Mark e) = true
-is_from (Round es) = true
-is_from (Redeclares t) = true
-is_from _ = false
-
-abbrev NotFrom : Option Entry → Type 0
-NotFrom None = Unit {0}
-NotFrom (Some x) = is_from x ≡ false
-
-not_from : (g : Input) (log : Log) (e : Entry) → is_from e ≡ false → IsFromLeft g log e
-not_from g log e h = grind arith
-
-no_note : (b : Bool) → NotFrom (note_if b)
-no_note b = grind arith
-
-no_due_by : (g : Input) (e : Event) (log : Log) → NotFrom (due_by g e log)
-no_due_by g e log = grind (arith, no_note)
-
-no_mark_due : (g : Input) (log : Log) → NotFrom (mark_due g log)
-no_mark_due g log = grind (arith, no_due_by)
-
-no_does : (at : Site) (o : Option Act) → NotFrom (does_at at o)
-no_does at o = grind arith
-
-no_message : (l : Site × Site) (n : ℕ) (o : Option Msg) → NotFrom (hand_with l n o)
-no_message l n o = grind arith
-
-no_number : (log : Log) (l : Site × Site) (o : Option ℕ) → NotFrom (hand_number log l o)
-no_number log l o = grind (arith, no_message)
-
-no_hand : (log : Log) (l : Site × Site) (b : Bool) (o : Option ℕ) → NotFrom (if b then hand_number log l o else None)
-no_hand log l true o = no_number log l o
-no_hand log l false o = tt
-
-is_not : (o : Option Entry) (e : Entry) → NotFrom o → o ≡ Some e → is_from e ≡ false
-is_not o e h p = grind (arith, is_from)
-
-from_left_at : (g : Input) (log : Log) (e : Entry) → next_mark g log ≡ Some e → IsFromLeft g log e
-from_left_at g log e h = grind arith
-
-from_left : (g : Input) (log : Log) (e : Entry) → next g log ≡ Some e → IsFromLeft g log e
-from_left g log e h = grind (arith, one_of, IsFromLeft, not_from, is_not, no_mark_due, found_at, no_does, no_hand, from_left_at)
 
 -- what is left and what was marked are the events
 pub record IsLeft (n : ℕ) (events : List Event) (s : List Event × List Event) (m : ℕ) : Type 0 where
@@ -132,9 +82,9 @@ round_step g log n m es s h i = grind (arith, marks_round, none_round)
 
 pub left_is : (g : Input) (n : ℕ) (log : Log) → IsLawful g log → IsLeft n g.events (left g.events log) (marked n log)
 left_is g n [] h = record { all = omega arith; round_none = refl }
-left_is g n (Mark e ∷ log) h = mark_step g log n (marked n log) e (left g.events log) (from_left g log (Mark e) h.0) (left_is g n log h.1)
-left_is g n (Round es ∷ log) h = round_step g log n (marked n log) es (left g.events log) (from_left g log (Round es) h.0) (left_is g n log h.1)
-left_is g n (Redeclares t ∷ log) h = redeclare_step g log n (marked n log) t (left g.events log) (from_left g log (Redeclares t) h.0) (left_is g n log h.1)
+left_is g n (Mark e ∷ log) h = mark_step g log n (marked n log) e (left g.events log) (mark_is_next g log (Mark e) refl h.0) (left_is g n log h.1)
+left_is g n (Round es ∷ log) h = round_step g log n (marked n log) es (left g.events log) (mark_is_next g log (Round es) refl h.0) (left_is g n log h.1)
+left_is g n (Redeclares t ∷ log) h = redeclare_step g log n (marked n log) t (left g.events log) (mark_is_next g log (Redeclares t) refl h.0) (left_is g n log h.1)
 left_is g n (_ ∷ log) h = left_is g n log h.1
 
 counts_mark : (n : ℕ) (log : Log) → was_marked n log ≡ true → 1 ≤ marked n log

@@ -13,7 +13,8 @@ use Rattle.sdd_log.specs.Lawful.{IsLawful, IsWithin}
 abbrev pub AllHanded : Log → Type 0
 AllHanded log = (a b : Site) → takes_part b log ≡ true → handed a b log ≡ delivered (link_of a b log).there
 
--- between events: nothing but a mark is due
+-- At rest between two events: within the limits nothing but a mark is due. Packets may be in flight, and data modules
+-- down: that the links are quiet as well is `IsStill` of sdd_progress, and that no module is down either its `IsQuiet`.
 pub record Rests (g : Input) (log : Log) : Type 0 where
   pub lawful : IsLawful g log
   pub within : IsWithin log

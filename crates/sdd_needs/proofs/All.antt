@@ -1,5 +1,6 @@
 -- The names of std, of the crates below and of this crate's definitions that its proofs cite. Declares nothing.
-pub use Rattle.sdd_log.proofs.Grows.{mark_is_next}
+pub use Rattle.sdd_log.proofs.AsLists.{next_mark_is}
+pub use Rattle.sdd_log.proofs.NextMark.{mark_is_next}
 pub use Rattle.sdd_log.proofs.Marking.{TurnsNone}
 pub use Rattle.sdd_log.proofs.Rounding.{each_of_round}
 pub use Rattle.sdd_log.proofs.site_module.Finding.{found_at, one_of}
@@ -7,7 +8,8 @@ pub use Rattle.sdd_log.specs.Due.{does_at, hand_due, hand_number, hand_on, mark_
 pub use Rattle.sdd_log.specs.Entries.{Does, Entry, Hand, Input, Log, Mark, Notes, Redeclares, Round, Submitted, marks}
 pub use Rattle.sdd_log.specs.Lawful.{IsLawful, IsWithin}
 pub use Rattle.sdd_log.specs.Locals.{local_of, nth_era, redeclares, setting_of, with_tick}
-pub use Rattle.sdd_log.specs.Marks.{after_mark, from_event, greatest_bound, left, mark_from, mark_of}
+pub use Rattle.sdd_log.specs.Left.{after_mark, left, mark_from, mark_of}
+pub use Rattle.sdd_log.specs.Marks.{from_event, greatest_bound}
 pub use Rattle.sdd_log.specs.Resting.{AtEach}
 pub use Rattle.sdd_log.specs.Traffic.{all_links, calls_of, handed, is_down, link_of, takes_part, turned_by}
 pub use Rattle.sdd_log.specs.base.Sites.{sites}

@@ -1,6 +1,6 @@
 -- What the next entry of a log is, beyond that it is allowed: it concerns sites and links of the network, and an event
 -- comes from those that were given or from a round.
-use Rattle.sdd_needs.proofs.All.{Act, AllFewTicks, Bool, Call, Deliver, Does, Down, Entry, Event, Hand, Input, IsLawful, List, Log, Lose, MAX_TICKS, Mark, Msg, None, Notes, Option, Redeclare, Redeclares, Repeat, Resend, Round, Settle, Site, Some, Submit, Submitted, Tick, Up, [], after_mark, all_links, arith, calls_of, cond, cons_option, delivered, does_at, false, filter_map, flat_map, found_at, from_event, greatest_bound, hand_due, hand_number, hand_on, handed, if◌then◌else◌, in_flight, left, link, link_of, mark_due, mark_from, next, next_at, next_number, one_of, quiet, refl, replicate, resends_now, round, site_due, sites, slice_get, subst, suc, sym, takes_part, ticks_of, true, zero, ℕ, ◌++◌, ◌+◌, ◌-◌, ◌∷◌, ◌≡◌, ◌≤◌}
+use Rattle.sdd_needs.proofs.All.{Act, AllFewTicks, Bool, Call, Deliver, Does, Down, Entry, Event, Hand, Input, IsLawful, List, Log, Lose, MAX_TICKS, Mark, Msg, None, Notes, Option, Redeclare, Redeclares, Repeat, Resend, Round, Settle, Site, Some, Submit, Submitted, Tick, Up, [], after_mark, all_links, arith, calls_of, cond, cons_option, delivered, does_at, false, filter_map, flat_map, found_at, from_event, greatest_bound, hand_due, hand_number, hand_on, handed, if◌then◌else◌, in_flight, left, link, link_of, mark_due, mark_from, mark_of, next, next_at, next_mark_is, next_number, one_of, quiet, refl, replicate, resends_now, round, site_due, sites, slice_get, subst, suc, sym, takes_part, ticks_of, true, zero, ℕ, ◌++◌, ◌+◌, ◌∙◌, ◌∷◌, ◌≡◌, ◌≤◌}
 
 abbrev pub IsThere : {A : Type 0} → List A → A → Type 0
 IsThere xs x = (k : ℕ) × (slice_get xs k ≡ Some x)
@@ -83,6 +83,10 @@ few_delivers : (calls : List (Call Msg)) (ls : List (Site × Site))
 few_delivers calls [] = tt
 few_delivers calls (l ∷ ls) = few_join _ _ (few_replicate (in_flight (link l.0 l.1 calls)) l.0 l.1) (few_delivers calls ls)
 
+of_lists : (g : Input) (log : Log) (e : Entry) (s : List Event × List Event) → AreFewLeft s → mark_of g log s ≡ Some e → OfNext g log e
+of_lists g log e (ws, []) f q = of_events g log (quiet (all_links g) (calls_of log)) ws e f.0 q
+of_lists g log e (ws, x ∷ r) f q = some_mark g log x e f.1.0 q
+
 next_is : (g : Input) (log : Log) (e : Entry) → AreFewLeft (left g.events log) → next g log ≡ Some e → OfNext g log e
 next_is g log e f p =
     one_of (OfNext g log e) (mark_due g log) _ e (of_mark g log e)
@@ -92,7 +96,7 @@ next_is g log e f p =
     (one_of (OfNext g log e) (hand_due g log) _ e
     (λ q. let r = found_at (hand_on log) (all_links g) e q in of_link g log r.1.0 r.1.1
     (takes_part r.1.1 log) (next_number (handed r.1.0 r.1.1 log) (delivered (link_of r.1.0 r.1.1 log).there)) e (r.0, r.2) r.3)
-    (λ q. (grind (arith, of_events, quiet, some_mark))))) p
+    (λ q. of_lists g log e (left g.events log) f (sym (next_mark_is g log) ∙ q)))) p
 
 few_left : (g : Input) (log : Log) → AllFewTicks g.events → IsLawful g log → AreFewLeft (left g.events log)
 few_left g [] f h = (f, tt)

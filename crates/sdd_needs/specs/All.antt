@@ -46,7 +46,8 @@ pub use Rattle.sdd_needs.specs.logs.Due.{due_by, next, next_in, note_if}
 pub use Rattle.sdd_needs.specs.logs.Entries.{Does, Hand, Input, Log, Mark, Notes, Redeclares, Round, Submitted, history, marks, with_event}
 pub use Rattle.sdd_needs.specs.logs.Lawful.{EndsByLimit, IsLawful, puts_past}
 pub use Rattle.sdd_needs.specs.logs.Locals.{beginning, local_of, nth_era, redeclares, rows_of, setting_of, txn_at, with_era, with_submit}
-pub use Rattle.sdd_needs.specs.logs.Marks.{after_mark, bound_at, greatest_bound, left}
+pub use Rattle.sdd_needs.specs.logs.Left.{after_mark, left}
+pub use Rattle.sdd_needs.specs.logs.Marks.{bound_at, greatest_bound}
 pub use Rattle.sdd_needs.specs.logs.Resting.{AllHanded, AllLinked, AtEach, EndsIn, IsFirst, IsLinkOf, IsMarked, IsPossible, IsSiteOf, Remain, Rests, TakesAway, TakesRounds, Waits, from_one, settles_before}
 pub use Rattle.sdd_needs.specs.logs.Snapshots.{base_of}
 pub use Rattle.sdd_needs.specs.logs.Spelled.{call_as, delivered_as, link_as, packet_as}

@@ -51,7 +51,7 @@ pub use Rattle.sdd_invariants.proofs.lang.Sets.{All-ascending}
 pub use Rattle.sdd_invariants.proofs.lang.SortedEntries.{sorted_nil}
 pub use Rattle.sdd_invariants.proofs.lang.StaysDatabase.{no_database, with_row_stays}
 pub use Rattle.sdd_invariants.proofs.logs.EachLocal.{allowed_act, each_local}
-pub use Rattle.sdd_invariants.proofs.logs.Grows.{mark_is_next}
+pub use Rattle.sdd_invariants.proofs.logs.NextMark.{mark_is_next}
 pub use Rattle.sdd_invariants.proofs.logs.Marking.{TurnsNone}
 pub use Rattle.sdd_invariants.proofs.logs.NewMarks.{lawful_permitted}
 pub use Rattle.sdd_invariants.proofs.logs.Rounding.{each_of_round}

@@ -109,7 +109,8 @@ pub use Rattle.sdd_obligations.specs.logs.Due.{does_at, due_by, extended, hand_d
 pub use Rattle.sdd_obligations.specs.logs.Entries.{Does, Entry, Hand, Input, Log, Mark, Notes, Redeclares, Round, Submitted, history, marks, with_event}
 pub use Rattle.sdd_obligations.specs.logs.Lawful.{EndsByLimit, IsLawful, IsTheLog, puts_past}
 pub use Rattle.sdd_obligations.specs.logs.Locals.{IsEra, beginning, local_of, nth_era, redeclares, rows_of, setting_of, txn_at, with_era, with_submit}
-pub use Rattle.sdd_obligations.specs.logs.Marks.{after_mark, bound_at, greatest_bound, left, mark_from, mark_of, next_mark}
+pub use Rattle.sdd_obligations.specs.logs.Left.{after_mark, left, mark_from, mark_of}
+pub use Rattle.sdd_obligations.specs.logs.Marks.{bound_at, greatest_bound, next_mark}
 pub use Rattle.sdd_obligations.specs.logs.Permitted.{AreSubmittedOnce, IsAllowed, IsPermitted, by_event, by_mark, one_if, submits_by, submits_in}
 pub use Rattle.sdd_obligations.specs.logs.Resting.{AllHanded, AllLinked, AtEach, EndsIn, IsFirst, IsLinkOf, IsMarked, IsPossible, IsSiteOf, Remain, Rests, TakesAway, TakesRounds, Waits, from_one, settles_before}
 pub use Rattle.sdd_obligations.specs.logs.Snapshots.{base_of}

@@ -96,6 +96,7 @@ pub use Rattle.sdd_obligations.proofs.invariants.logs.umod.Lists.{or_nothing as 
 pub use Rattle.sdd_obligations.proofs.lang.SortedEntries.{sorted_nil}
 pub use Rattle.sdd_obligations.proofs.laws.NumberedStarts.{one_start, start_counts}
 pub use Rattle.sdd_obligations.proofs.laws.Times.{condition_time}
+pub use Rattle.sdd_obligations.proofs.logs.AsLists.{next_mark_is}
 pub use Rattle.sdd_obligations.proofs.logs.Completing.{complete_parts}
 pub use Rattle.sdd_obligations.proofs.logs.EachLocal.{allowed_act, each_local}
 pub use Rattle.sdd_obligations.proofs.logs.FirstHand.{none_to_hand, one_on}

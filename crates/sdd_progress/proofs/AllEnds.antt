@@ -8,6 +8,7 @@ pub use Rattle.sdd_obligations.proofs.invariants.Fair.{all_new, t_fair, u_fair}
 pub use Rattle.sdd_obligations.proofs.invariants.Lists.{in_filtered}
 pub use Rattle.sdd_obligations.proofs.invariants.Queues.{queue_is}
 pub use Rattle.sdd_obligations.proofs.attempt.LineActs.{work_sent}
+pub use Rattle.sdd_obligations.proofs.logs.AsLists.{next_mark_is}
 pub use Rattle.sdd_obligations.proofs.logs.Completing.{complete_parts}
 pub use Rattle.sdd_obligations.proofs.logs.Handing.{delivered_puts}
 pub use Rattle.sdd_obligations.proofs.logs.NewMarks.{lawful_permitted}

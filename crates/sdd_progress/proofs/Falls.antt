@@ -1,5 +1,5 @@
 -- Each entry of a log leaves less to come: of marks and rounds, else of messages to be handed over, else of acts.
-use Rattle.sdd_progress.proofs.AllEnds.{Act, Bool, Entry, Event, Input, IsPermitted, List, Log, MAX_RUN_EVENTS, Mark, Notes, Option, Redeclares, Round, Settle, Site, Some, [], all_links, ap, arith, does_at, false, false≢true, found_at, hand_due, hand_on, is_past, left, length, ltb-false, mark_due, mark_from, marks, next, next_at, note_if, one_of, refl, same_Some, site_due, sites, slice_get, subst, sym, true, ℕ, ◌*◌, ◌+◌, ◌-◌, ◌<◌, ◌∷◌, ◌≡◌, ◌≤◌}
+use Rattle.sdd_progress.proofs.AllEnds.{Act, Bool, Entry, Event, Input, IsPermitted, List, Log, MAX_RUN_EVENTS, Mark, Notes, Option, Redeclares, Round, Settle, Site, Some, [], all_links, ap, arith, calls_of, does_at, false, false≢true, found_at, hand_due, hand_on, is_past, left, length, ltb-false, mark_due, mark_from, mark_of, marks, next, next_at, next_mark_is, note_if, one_of, quiet, refl, round, same_Some, site_due, sites, slice_get, subst, sym, true, ℕ, ◌*◌, ◌+◌, ◌-◌, ◌<◌, ◌∙◌, ◌∷◌, ◌≡◌, ◌≤◌}
 use Rattle.sdd_progress.proofs.Beginning.{round_begins}
 use Rattle.sdd_progress.proofs.Marked.{is_of_events}
 use Rattle.sdd_progress.proofs.Sites.{act_hands, acts_left, does_falls, hand_falls, hands_left, is_hand_on}
@@ -46,6 +46,10 @@ of_events g log true events (Settle ∷ ws) e h = of_events g log true events ws
 of_events g log false events (Settle ∷ ws) e h = sym (ap is_of_events (same_Some _ e h))
 of_events g log _ events (_ ∷ ws) e h = sym (ap is_of_events (same_Some _ e h))
 
+of_lists : (g : Input) (log : Log) (s : List Event × List Event) (e : Entry) → mark_of g log s ≡ Some e → is_of_events e ≡ true
+of_lists g log (ws, []) e h = of_events g log (quiet (all_links g) (calls_of log)) (round (all_links g) (calls_of log)) ws e h
+of_lists g log (ws, x ∷ r) e h = sym (ap is_of_events (same_Some _ e h))
+
 none_between : (events : List Event) → 0 < length events → between_rounds events ≡ 0
 none_between events l = grind arith
 
@@ -63,4 +67,4 @@ falls g log e h is p =
     m in by_act g log r.0 r.1 (next_at g log r.1) e h r.2 refl r.3)
     (one_of (Falls g (e ∷ log) log) (hand_due g log) _ e
     (λ m. let r = found_at (hand_on log) (all_links g) e m in by_hand g log r.0 r.1 e r.2 r.3)
-    (λ m. by_event g log e is (grind (arith, of_events, is_of_events, same_Some)) p))) is
+    (λ m. by_event g log e is (of_lists g log (left g.events log) e (sym (next_mark_is g log) ∙ m)) p))) is

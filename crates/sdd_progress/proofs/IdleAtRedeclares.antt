@@ -1,5 +1,5 @@
 -- On a lawful log all was idle wherever a further class list was put in force, if no module was down there.
-use Rattle.sdd_progress.proofs.All.{AreSubmittedOnce, Bool, Entry, Event, HasSoundLists, Input, IsIdle, IsIdleAtRedeclares, IsLawful, IsModule, IsQuiet, IsSoundList, IsUpAtRedeclares, List, Log, None, Option, Redeclare, Redeclares, Settle, Some, Up, [], all_links, ap, arith, calls_of, false, found_at, greatest_bound, hand_due, is_down, lawful_permitted, left, mark_due, mark_from, mark_of, next, next_mark, or_else, quiet, redeclares, refl, site_due, subst, sym, true, ℕ, ◌++◌, ◌∷◌, ◌≡◌}
+use Rattle.sdd_progress.proofs.All.{AreSubmittedOnce, Bool, Entry, Event, HasSoundLists, Input, IsIdle, IsIdleAtRedeclares, IsLawful, IsModule, IsQuiet, IsSoundList, IsUpAtRedeclares, List, Log, None, Option, Redeclare, Redeclares, Settle, Some, Up, [], all_links, ap, arith, calls_of, false, found_at, greatest_bound, hand_due, is_down, lawful_permitted, left, mark_due, mark_from, mark_of, next, next_mark, next_mark_is, or_else, quiet, redeclares, refl, site_due, subst, sym, true, ℕ, ◌++◌, ◌∙◌, ◌∷◌, ◌≡◌}
 use Rattle.sdd_progress.proofs.NoneWaits.{is_idle}
 use Rattle.sdd_progress.proofs.SinceRedeclare.{redeclares_up}
 
@@ -7,6 +7,9 @@ use Rattle.sdd_progress.proofs.SinceRedeclare.{redeclares_up}
 
 not_by_mark : (g : Input) (log : Log) (t : ℕ) → mark_due g log ≡ Some (Redeclares t) → ⊥
 not_by_mark g log t e = grind (arith)
+
+not_at_site : (g : Input) (log : Log) (t : ℕ) → site_due g log ≡ Some (Redeclares t) → ⊥
+not_at_site g log t e = grind (arith, found_at)
 
 not_on_link : (g : Input) (log : Log) (t : ℕ) → hand_due g log ≡ Some (Redeclares t) → ⊥
 not_on_link g log t e = grind (arith, found_at)
@@ -33,10 +36,16 @@ by_left : (g : Input) (log : Log) (t : ℕ) (s : List Event × List Event) → m
     → (quiet (all_links g) (calls_of log) ≡ true) × (t ≡ greatest_bound g log)
 by_left g log t s e = grind (arith, by_events)
 
+by_next : (g : Input) (log : Log) (t : ℕ) → next_mark g log ≡ Some (Redeclares t)
+    → (quiet (all_links g) (calls_of log) ≡ true) × (t ≡ greatest_bound g log)
+by_next g log t e = by_left g log t (left g.events log) (sym (next_mark_is g log) ∙ e)
+
 pub at_redeclare : (g : Input) (log : Log) (t : ℕ) → next g log ≡ Some (Redeclares t) → IsAtRedeclare g log t
 at_redeclare g log t e =
     or_other (IsAtRedeclare g log t) (mark_due g log) _ (Redeclares t) (not_by_mark g log t)
-    (grind (arith, or_other, IsAtRedeclare, site_due, found_at, hand_due, next_mark, not_on_link, by_left, left)) e
+    (λ no_mark at_site. or_other (IsAtRedeclare g log t) (site_due g log) _ (Redeclares t) (not_at_site g log t)
+    (λ no_site on_link. or_other (IsAtRedeclare g log t) (hand_due g log) (next_mark g log) (Redeclares t) (not_on_link g log t)
+    (λ no_hand marked. (let n = by_next g log t marked in record { no_site = no_site; no_hand = no_hand; links = n.0; time_is = n.1 })) on_link) at_site) e
 
 -- so nothing goes on there, and all is idle, since all was idle where the earlier lists were put in force
 

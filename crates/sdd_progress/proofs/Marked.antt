@@ -1,6 +1,6 @@
 -- Marks, rounds and class lists come of the events that are left, and of nothing else.
 use Rattle.std.proofs.Common.{arith}
-use Rattle.sdd_progress.proofs.AllEnds.{Act, Bool, Entry, Input, List, Log, Mark, None, Option, Redeclares, Round, Site, Some, [], all_links, does_at, false, first_some, hand_due, hand_on, mark_due, next, next_at, next_mark, or_else, same_Some, site_due, sites, true, ◌∷◌, ◌≡◌}
+use Rattle.sdd_progress.proofs.AllEnds.{Act, Bool, Entry, Input, List, Log, Mark, None, Option, Redeclares, Round, Site, Some, [], all_links, does_at, false, first_some, hand_due, hand_on, left, mark_due, mark_of, next, next_at, next_mark, next_mark_is, or_else, same_Some, site_due, sites, sym, true, ◌∙◌, ◌∷◌, ◌≡◌}
 
 abbrev pub is_of_events : Entry → Bool
 is_of_events (Mark e) = true
@@ -25,10 +25,11 @@ first_other f (x ∷ xs) h = or_other (f x) (first_some f xs) (h x) (first_other
 does_other : (at : Site) (o : Option Act) → IsOther (does_at at o)
 does_other at o = grind arith
 
-pub next_is_of_events : (g : Input) (log : Log) (e : Entry) → is_of_events e ≡ true → next g log ≡ Some e → next_mark g log ≡ Some e
+pub next_is_of_events : (g : Input) (log : Log) (e : Entry) → is_of_events e ≡ true → next g log ≡ Some e
+    → mark_of g log (left g.events log) ≡ Some e
 next_is_of_events g log e p q =
     let site = first_other (λ at. does_at at (next_at g log at)) (sites g.catalogue.tms g.catalogue.dms) (λ at. does_other at (next_at g log at)) in
     let hand = first_other (hand_on log) (all_links g)
     (λ l. (grind (arith))) in
     let a : or_else (site_due g log) (or_else (hand_due g log) (next_mark g log)) ≡ Some e = other_first (mark_due g log) _ e (grind (arith)) p q in
-    other_first (hand_due g log) (next_mark g log) e hand p (other_first (site_due g log) _ e site p a)
+    sym (next_mark_is g log) ∙ other_first (hand_due g log) (next_mark g log) e hand p (other_first (site_due g log) _ e site p a)

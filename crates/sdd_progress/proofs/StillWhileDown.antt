@@ -1,16 +1,16 @@
 -- From its `down` to its `up` nothing is handed to a data module and it does nothing: its log stays as it is.
-use Rattle.sdd_progress.proofs.AllEnds.{Act, Bool, D, Does, Entry, Event, Hand, Input, IsLawful, List, Log, Mark, Msg, None, Notes, Option, Redeclare, Redeclares, Round, Settle, Site, Some, T, U, Up, [], all_links, ap, arith, calls_of, delivered, does_at, eq-eqb, false, found_at, hand_due, hand_on, handed, if◌then◌else◌, left, link_of, local_of, mark_due, mark_from, mark_of, next, next_at, next_mark, one_of, quiet, refl, round, same_is, same_site, site_due, sites, subst, sym, true, ℕ, ◌++◌, ◌∙◌, ◌∷◌, ◌≡◌, ◌≤◌}
-use Rattle.sdd_obligations.specs.All.{Bases, Catalogue, DmNo, Submitted, Txn, base_of, class_for, greatest_bound, is_down, nth_era, redeclares, takes_part}
+use Rattle.sdd_progress.proofs.AllEnds.{Act, Bool, D, Does, Entry, Event, Hand, Input, IsLawful, List, Log, Mark, None, Notes, Option, Redeclare, Redeclares, Round, Settle, Site, Some, Up, [], all_links, ap, arith, calls_of, delivered, does_at, eq-eqb, false, found_at, hand_due, hand_on, handed, if◌then◌else◌, left, link_of, local_of, mark_due, mark_from, mark_of, next, next_at, next_mark_is, one_of, quiet, refl, round, same_is, same_site, site_due, sites, subst, sym, true, ℕ, ◌++◌, ◌∙◌, ◌∷◌, ◌≡◌, ◌≤◌}
+use Rattle.sdd_obligations.specs.All.{Bases, Catalogue, DmNo, Submitted, Txn, base_of, greatest_bound, is_down, nth_era, redeclares, takes_part}
 use Rattle.sdd_obligations.specs.base.declared.event.Event.TheVariants.{Deliver, Down, Lose, Repeat, Resend, Submit, Tick}
 use Rattle.sdd_obligations.specs.logs.Due.{due_by, hand_number, home_of, next_in, next_number, note_if}
-use Rattle.sdd_obligations.specs.logs.Locals.{txn_at, with_submit}
+use Rattle.sdd_obligations.specs.logs.Locals.{txn_at}
 use Rattle.sdd_obligations.specs.logs.Traffic.{turned_by}
 use Rattle.sdd_obligations.specs.site_module.SiteLog as site
 use Rattle.sdd_obligations.proofs.Linking.{lawful_part}
 use Rattle.sdd_progress.proofs.EventOver.{none_at_data, none_due, over_before}
 use Rattle.sdd_progress.specs.Down.{brings_up}
 use Rattle.std.specs.List.{list_any}
-use Rattle.std.specs.Prelude.{not, ◌==◌, ◌||◌}
+use Rattle.std.specs.Prelude.{not}
 use Rattle.std.proofs.lemmas.Bool.{or_parts as neither}
 
 -- what a next entry shows: to whom messages are handed, that transactions are given to no data module, and that acts are due
@@ -81,7 +81,7 @@ next_shows g log e h =
     (λ p. let r = found_at (hand_on log) (all_links g) e p in
     hand_shows g log r.1.0 r.1.1 (takes_part r.1.1 log)
     (next_number (handed r.1.0 r.1.1 log) (delivered (link_of r.1.0 r.1.1 log).there)) e refl r.3)
-    (mark_shows g log (left g.events log) e))) h
+    (λ p. mark_shows g log (left g.events log) e (sym (next_mark_is g log) ∙ p)))) h
 
 -- one entry after another
 

@@ -1,7 +1,10 @@
 -- Every transaction that is submitted is committed.
 use Rattle.std.specs.Prelude.{ℕ}
-use Rattle.sdd_obligations.specs.All.{HasCommit, History, IsSubmitted, Rec}
+use Rattle.sdd_obligations.specs.history.Records.{History}
+use Rattle.sdd_obligations.specs.history.declared.record.Rec.{Rec}
 use Rattle.sdd_obligations.specs.history.declared.record.Rec.TheVariants.{Submit}
+use Rattle.sdd_obligations.specs.laws.Deeds.{IsSubmitted}
+use Rattle.sdd_obligations.specs.serial_orders.Attempts.{HasCommit}
 
 -- the history has a Commit of transaction n
 pub record WasCommitted (h : History) (n : ℕ) : Type 0 where

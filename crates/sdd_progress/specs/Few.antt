@@ -1,7 +1,11 @@
 -- How many attempts of a transaction are rejected.
 use Rattle.std.specs.Prelude.{ℕ, ◌≤◌, ◌==◌, ◌&&◌, ◌≡◌, Bool, false, [], ◌∷◌, length, filter, None, refl}
 use Rattle.std.specs.List.{list_any}
-use Rattle.sdd_obligations.specs.All.{History, Rec, Reject, Start, class_no, commits_of_others, dm_no, time_at, txn_no}
+use Rattle.sdd_obligations.specs.base.Numbers.{class_no, dm_no, time_at, txn_no}
+use Rattle.sdd_obligations.specs.history.Records.{History}
+use Rattle.sdd_obligations.specs.history.declared.record.Rec.{Rec}
+use Rattle.sdd_obligations.specs.history.declared.record.Rec.TheVariants.{Reject, Start}
+use Rattle.sdd_obligations.specs.laws.Few.{commits_of_others}
 
 -- whether some module rejects the attempt of transaction n
 

@@ -1,6 +1,17 @@
 -- On which modules undeclared transactions hang while data modules are down, and who else goes on.
 use Rattle.std.specs.Prelude.{ℕ, ◌≡◌, ◌⊎◌, false, true, None, Some, [], length}
-use Rattle.sdd_obligations.specs.All.{AppliedBefore, Attempt, Committed, Input, IsClassOf, IsCommitted, IsModule, Log, U, active, contains, history, home, is_down, local_of, queue, setting_of}
+use Rattle.sdd_obligations.specs.attempt.Attempts.{Attempt, active}
+use Rattle.sdd_obligations.specs.attempt.Queues.{queue}
+use Rattle.sdd_obligations.specs.base.Words.{contains}
+use Rattle.sdd_obligations.specs.base.declared.site.Site.TheVariants.{U}
+use Rattle.sdd_obligations.specs.graph.Edges.{IsClassOf}
+use Rattle.sdd_obligations.specs.invariants.Steps.{home}
+use Rattle.sdd_obligations.specs.laws.Deeds.{AppliedBefore}
+use Rattle.sdd_obligations.specs.logs.Entries.{Input, Log, history}
+use Rattle.sdd_obligations.specs.logs.Locals.{local_of, setting_of}
+use Rattle.sdd_obligations.specs.logs.Traffic.{is_down}
+use Rattle.sdd_obligations.specs.serial_orders.Attempts.{Committed, IsCommitted}
+use Rattle.sdd_obligations.specs.serial_orders.Numbers.{IsModule}
 use Rattle.sdd_outage.specs.Tasks.{attempt}
 use Rattle.sdd_progress.specs.Committed.{WasCommitted}
 use Rattle.sdd_progress.specs.Outage.{IsSubmittedIn, NeedsAreUp}

@@ -1,8 +1,19 @@
 -- Who goes on while data modules are down.
 use Rattle.std.specs.Prelude.{ℕ, ◌++◌, ◌∷◌, ◌≡◌, ◌≤◌, false, true, List, [], Some, length}
-use Rattle.sdd_obligations.specs.All.{AppliedBefore, Committed, D, Input, IsCommitted, IsModule, Log, Site, Submitted, Txn, U, class_for, dm_no, has_copy, history, is_down, local_of, nth_era, queue, redeclares, setting_of, txn_at}
-use Rattle.sdd_obligations.specs.serial_orders.Attempts.{changes}
+use Rattle.sdd_obligations.specs.attempt.Queues.{queue}
+use Rattle.sdd_obligations.specs.base.Numbers.{dm_no}
+use Rattle.sdd_obligations.specs.base.declared.site.Site.{Site}
+use Rattle.sdd_obligations.specs.base.declared.site.Site.TheVariants.{D, U}
+use Rattle.sdd_obligations.specs.catalog.Catalogue.{has_copy}
+use Rattle.sdd_obligations.specs.lang.Classes.{class_for}
+use Rattle.sdd_obligations.specs.lang.declared.transaction.Txn.{Txn}
+use Rattle.sdd_obligations.specs.laws.Deeds.{AppliedBefore}
+use Rattle.sdd_obligations.specs.logs.Entries.{Input, Log, Submitted, history}
+use Rattle.sdd_obligations.specs.logs.Locals.{local_of, nth_era, redeclares, setting_of, txn_at}
+use Rattle.sdd_obligations.specs.logs.Traffic.{is_down}
 use Rattle.sdd_obligations.specs.protocol.declared.entry.Entry.{Entry}
+use Rattle.sdd_obligations.specs.serial_orders.Attempts.{Committed, IsCommitted, changes}
+use Rattle.sdd_obligations.specs.serial_orders.Numbers.{IsModule}
 use Rattle.sdd_outage.specs.Needs.{Needs}
 use Rattle.sdd_outage.specs.Tasks.{Task, attempt, passing}
 use Rattle.sdd_progress.specs.Committed.{WasCommitted}

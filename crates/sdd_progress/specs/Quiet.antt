@@ -10,7 +10,7 @@ pub record IsStill (g : Input) (log : Log) : Type 0 where
   pub no_act : site_due g log ≡ None
   pub no_hand : hand_due g log ≡ None
 
--- and no data module is down
+-- and no data module is down; what the classes still have to do is no part of it (`IsIdle`, `IsFinished`)
 pub record IsQuiet (g : Input) (log : Log) : Type 0 where
   pub permitted : IsPermitted g log
   pub links : quiet (all_links g) (calls_of log) ≡ true

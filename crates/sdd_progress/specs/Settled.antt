@@ -3,13 +3,15 @@ use Rattle.std.specs.Prelude.{ℕ, ◌≡◌, false, true, None}
 use Rattle.sdd_obligations.specs.All.{Input, IsLawful, IsModule, Log, all_links, calls_of, is_down, next, quiet}
 use Rattle.sdd_progress.specs.Premises.{IsUpAtRedeclares}
 
--- nothing is next, and no data module is down, nor was one where a further class list was put in force
+-- Where all events are carried out: nothing is next, not even a mark, and no data module is down, nor was one where a
+-- further class list was put in force.
 pub record IsAtEnd (g : Input) (log : Log) : Type 0 where
   pub lawful : IsLawful g log
   pub complete : next g log ≡ None
   pub up_before : IsUpAtRedeclares g log
   pub up : (d : ℕ) → IsModule g.catalogue d → is_down d log ≡ false
 
+-- and the links are quiet, as after a settle
 pub record IsSettled (g : Input) (log : Log) : Type 0 where
   pub at_end : IsAtEnd g log
   pub links : quiet (all_links g) (calls_of log) ≡ true

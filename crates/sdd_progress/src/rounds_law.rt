@@ -1,5 +1,6 @@
 ghost use Rattle.std.specs.Prelude.{◌≡◌, ◌<◌, ◌≤◌, ◌^◌, ◌∷◌, ℕ, suc, true, false, List, [], length, None, Some};
-ghost use Rattle.sdd_obligations.specs.invariants.All.{AtEach, Call, Event, Input, IsLawful, IsTheLog, IsWithin, Log, Mark, Msg, Round, Settle, Site, all_links, calls_of, is_link, left, links, marks, next, quiet, round, with_event};
+ghost use Rattle.sdd_obligations.specs.invariants.All.{AtEach, Call, Event, Input, IsLawful, IsTheLog, IsWithin, Log, Mark, Msg, Round, Settle, Site, all_links, calls_of, is_link, links, marks, next, quiet, round, with_event};
+ghost use Rattle.sdd_obligations.specs.logs.Marks.{BetweenRounds, ahead};
 ghost use Rattle.sdd_progress.specs.Rounds.{IsOfRound, rounds};
 
 /// A law: where the links of a network aren't quiet a round has an event, and each of its events is
@@ -19,8 +20,8 @@ pub fn law_rounds()
 pub fn law_rounds_end()
     ensures begins { (given : Input) (log : Log) (events : List Event)
         → next given log ≡ Some (Round events)
-        → ((left given.events log).1 ≡ []) × (quiet (all_links given) (calls_of log) ≡ false)
-        × (0 < length events) }
+        → (schedule : List Event) × (ahead given.events log ≡ BetweenRounds schedule)
+        × (quiet (all_links given) (calls_of log) ≡ false) × (0 < length events) }
     ensures few { (given : Input) (log : Log) → IsLawful given log → rounds log ≤ suc (marks log) }
     ensures within { (given : Input) (log : Log) → IsLawful given log → IsWithin log
         → rounds log ≤ 2 ^ 32 }
@@ -31,7 +32,7 @@ pub fn law_rounds_end()
 /// and where nothing is next and it was the last.
 pub fn law_quiet_after_settle()
     ensures before_event { (given : Input) (log : Log) (event : Event) (events : List Event)
-        → left given.events log ≡ (Settle ∷ events, []) → next given log ≡ Some (Mark event)
+        → ahead given.events log ≡ BetweenRounds (Settle ∷ events) → next given log ≡ Some (Mark event)
         → quiet (all_links given) (calls_of log) ≡ true }
     ensures last { (given : Input) (log : Log) → IsLawful (with_event given Settle) log
         → next (with_event given Settle) log ≡ None

@@ -33,7 +33,7 @@ pub use Rattle.sdd_obligations.proofs.invariants.logs.umod.Turns.{counts_tm}
 pub use Rattle.sdd_obligations.proofs.lang.StaysDatabase.{no_database, rows_make_database}
 pub use Rattle.sdd_obligations.proofs.laws.Members.{Contains-from_filter, Contains-from_filter_map, Contains-from_flat_map, Contains-from_map}
 pub use Rattle.sdd_obligations.proofs.laws.SameCopies.{equal_copies}
-pub use Rattle.sdd_obligations.proofs.logs.Completing.{complete_parts, none_left}
+pub use Rattle.sdd_obligations.proofs.logs.Completing.{OnlyMarksAreDue, complete_parts, none_left}
 pub use Rattle.sdd_obligations.proofs.logs.EachLocal.{allowed_act}
 pub use Rattle.sdd_obligations.proofs.logs.NewMarks.{lawful_permitted, left_is, marked}
 pub use Rattle.sdd_obligations.proofs.logs.One.{limit_or_complete, one_log}
@@ -142,7 +142,7 @@ pub use Rattle.sdd_run.specs.Clocks.{HasLowClocks}
 pub use Rattle.sdd_run.specs.Free.{IsAnsweredWithin, IsUndisturbed}
 pub use Rattle.sdd_run.specs.Lent.{era_of_list}
 pub use Rattle.sdd_run.specs.Reasons.{IsFirstUnmet, IsInLine, IsTruePending, IsTrueReason, IsUnderway, ReadWaits, TellsPending, WaitsForHeld, WasFirst, attempt_at, counts_at_u, has_passed_at, in_line, is_asking_to_hold, is_unanswered, lacks_answer_of, queue_at_home, without_served}
-pub use Rattle.sdd_run.specs.Reports.{report_by, report_of}
+pub use Rattle.sdd_run.specs.Reports.{report_of}
 pub use Rattle.sdd_run.specs.Runs.{AreTables, EndsAtLimit, IsFreeInEach, IsReportOn, IsSummaryOn, eras_with_tables, first_input, input_of, order_of, plain_run}
 pub use Rattle.sdd_run.specs.Standings.{IsNumberedSite, IsStanding}
 pub use Rattle.sdd_run.specs.Settled.{EndsAtRest, EndsQuiet, IsAtRest, LosesNothing, NoneIsDown, TellsAllCommitted}
@@ -158,7 +158,8 @@ pub use Rattle.sdd_world.proofs.Turning.{t_site as within}
 pub use Rattle.sdd_world.specs.AtSites.{standing_at}
 pub use Rattle.sdd_world.specs.Beginnings.{AllBegin, BeginsD, IsBegun, There}
 pub use Rattle.sdd_world.specs.Copies.{rows_left, table_of, tables_at, tables_of}
-pub use Rattle.sdd_world.specs.Pending.{AreAtLastHomes, Homes, IsListed, Telling, commits, last_home, pending_as, pending_at, pending_by, pending_of, reason_of, status_at, submitted_at, unmet, wait_at, wait_for, waits_of, why_of}
+pub use Rattle.sdd_world.specs.LastHomes.{AreAtLastHomes, all_at_last, last_home, pending_at_last}
+pub use Rattle.sdd_world.specs.Pending.{IsListed, commits, pending_as, pending_in, pending_of, status_at, submitted_at, unmet, wait_at, wait_for, waits_of, why_at, why_of, why_pending}
 pub use Rattle.sdd_world.specs.Schedules.{AreAllowed, lists_after, takes_rounds, with_events}
 pub use Rattle.sdd_world.specs.Represents.{EndsBy, Represents}
 pub use Rattle.sdd_world.specs.Standings.{standing_at_t, standing_at_u}

@@ -1,5 +1,5 @@
 -- Where a settle or a redeclare is the last of the events, the links are quiet at the end.
-use Rattle.sdd_run.proofs.All.{Bool, Event, Input, IsAtRest, IsLawful, List, Log, Mark, None, Redeclare, Redeclares, Settle, Some, Up, [], after_mark, all_links, ap, arith, at_redeclare, calls_of, complete_parts, false, first_none, from_event, hand_due, hand_on, inl, inr, left, mark_from, mark_of, next, next_is_of_events, no_redeclare, none_any_base, none_left, quiet, quiet_at_last, refl, same_part, site_due, subst, sym, tail_of, true, with_event, ℕ, ◌++◌, ◌∙◌, ◌∷◌, ◌≡◌, ◌⊎◌}
+use Rattle.sdd_run.proofs.All.{Bool, Event, Input, IsAtRest, IsLawful, List, Log, Mark, None, OnlyMarksAreDue, Redeclare, Redeclares, Settle, Some, Up, [], after_mark, all_links, ap, arith, at_redeclare, calls_of, complete_parts, false, first_none, from_event, hand_due, hand_on, inl, inr, left, mark_from, mark_of, next, next_is_of_events, no_redeclare, none_any_base, none_left, quiet, quiet_at_last, refl, same_part, site_due, subst, sym, tail_of, true, with_event, ℕ, ◌++◌, ◌∙◌, ◌∷◌, ◌≡◌, ◌⊎◌}
 use Rattle.sdd_obligations.specs.All.{Entry}
 use Rattle.sdd_obligations.specs.site_module.SiteLog as site
 
@@ -68,8 +68,11 @@ record IsDone (g : Input) (log : Log) : Type 0 where
 over : (g : Input) (log : Log) (x : Entry) → IsLawful g log → next g log ≡ Some x → IsDone g log → ⊥
 over g log x h n d =
     let lawful : IsLawful g (Redeclares d.time ∷ d.before) = subst (IsLawful g) d.is h in
-    let none : next g log ≡ None =
-    ap (next g) d.is ∙ (grind (arith, at_redeclare, none_left, none_at_site, none_to_hand)) in
+    let at = at_redeclare g d.before d.time lawful.0 in
+    let empty : left g.events (Redeclares d.time ∷ d.before) ≡ ([], []) = sym (ap (left g.events) d.is) ∙ d.none in
+    let marks_alone : OnlyMarksAreDue g (Redeclares d.time ∷ d.before) =
+    record { no_mark = refl; no_site = none_at_site g d.time d.before at.no_site; no_hand = none_to_hand g d.time d.before at.no_hand } in
+    let none : next g log ≡ None = ap (next g) d.is ∙ none_left g (Redeclares d.time ∷ d.before) marks_alone empty in
     let wrong : Some x ≡ None = sym n ∙ none in absurd (cc)
 
 -- so the last event is to come, or is done
@@ -89,7 +92,9 @@ last_one g log t h4 = grind arith
 is_last : (g : Input) (log : Log) → IsLawful g log → ends false g.events ≡ true → IsLast g log
 unfolding IsLast
 is_last g [] h p = inl p
-is_last g (Mark e ∷ log) h p = grind (arith, mark_taken, next_is_of_events, to_come, (is_last g log h.1 p))
+is_last g (Mark e ∷ log) h p =
+    inl
+    (mark_taken g log e (left g.events log) (next_is_of_events g log (Mark e) refl h.0) (to_come g log (Mark e) h (is_last g log h.1 p)))
 is_last g (Redeclares t ∷ log) h p =
     last_one g log t (list_taken g log t (left g.events log) (next_is_of_events g log (Redeclares t) refl h.0)
     (to_come g log (Redeclares t) h (is_last g log h.1 p)))

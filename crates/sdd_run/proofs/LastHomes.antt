@@ -1,6 +1,6 @@
 -- A transaction that is pending when a run ends was submitted under the class list that is in force then: all that
 -- was submitted under an earlier one is committed. So it is looked for at the site of its class by that list.
-use Rattle.sdd_run.proofs.All.{AreAtLastHomes, Bool, Does, Hand, Homes, Input, IsPermitted, IsSubmitted, Known, List, Log, Mark, None, Notes, Option, Rec, Redeclares, Round, Site, Some, Submit, Submitted, Telling, TxnNo, [], ap, append_assoc, arith, commit_there, commits, cons_option, eqb-true, false, filter_map, given_at, history, history_le, home_of, if◌then◌else◌, inl, inr, last_home, length, length-append, list_any, not_both, nth_era, one_submit, option_map, pending_as, pending_at, pending_by, pending_of, permitted_before, reason_of, recorded_front, recorded_there, redeclare_between, redeclares, refl, rest, same_number, slice_get, submit_in, submitted_at, subst, suc, sym, true, txn_at, txn_no, ℕ, ◌++◌, ◌+◌, ◌==◌, ◌∙◌, ◌∷◌, ◌≡◌}
+use Rattle.sdd_run.proofs.All.{AreAtLastHomes, Bool, Does, Hand, Input, IsPermitted, IsSubmitted, Known, List, Log, Mark, None, Notes, Option, Rec, Redeclares, Round, Site, Some, Submit, Submitted, TxnNo, [], all_at_last, ap, append_assoc, arith, commit_there, commits, cons_option, eqb-true, false, filter_map, given_at, history, history_le, home_of, if◌then◌else◌, inl, inr, last_home, length, length-append, list_any, not_both, nth_era, one_submit, option_map, pending_as, pending_at_last, pending_in, pending_of, permitted_before, recorded_front, recorded_there, redeclare_between, redeclares, refl, rest, same_number, slice_get, submit_in, submitted_at, subst, suc, sym, true, txn_at, txn_no, why_at, ℕ, ◌++◌, ◌+◌, ◌==◌, ◌∙◌, ◌∷◌, ◌≡◌}
 use Rattle.sdd_run.proofs.Lossless.{commits_it}
 
 -- the site that a log tells is that of the one place where it submits the transaction
@@ -71,16 +71,16 @@ chosen_alike : {A B : Type 0} (f g : A → Option B) (xs : List A) → ((k : ℕ
 chosen_alike f g [] h = refl
 chosen_alike f g (x ∷ xs) h = ap (λ o. cons_option o (filter_map f xs)) (h 0 x refl) ∙ ap (cons_option (g x)) (chosen_alike f g xs (λ k y e. h (suc k) y e))
 
-same_if : (tell : Telling) (g : Input) (log : Log) (homes others : Homes) (n : TxnNo) (b : Bool) → (b ≡ false → homes n.0 ≡ others n.0)
-    → (if b then None else pending_as n (reason_of tell homes g log n.0)) ≡ (if b then None else pending_as n (reason_of tell others g log n.0))
-same_if tell g log homes others n b h = grind arith
+same_if : (g : Input) (log : Log) (one other : Site) (n : TxnNo) (b : Bool) → (b ≡ false → one ≡ other)
+    → (if b then None else pending_as n (why_at g log one n.0)) ≡ (if b then None else pending_as n (why_at g log other n.0))
+same_if g log one other n b h = grind arith
 
-same_one : (tell : Telling) (g : Input) (log : Log) → AreAtLastHomes g log → (k : ℕ) (e : ℕ × Rec) → slice_get (history log) k ≡ Some e
-    → pending_by tell (last_home g log) g log (history log) e ≡ pending_by tell (submitted_at log) g log (history log) e
-same_one tell g log h k (event, Submit n) e =
-    same_if tell g log (last_home g log) (submitted_at log) n (list_any (commits n.0) (history log))
+same_one : (g : Input) (log : Log) → AreAtLastHomes g log → (k : ℕ) (e : ℕ × Rec) → slice_get (history log) k ≡ Some e
+    → pending_at_last g log (history log) e ≡ pending_in g log e
+same_one g log h k (event, Submit n) e =
+    same_if g log (last_home g log n.0) (submitted_at log n.0) n (list_any (commits n.0) (history log))
     (λ unmade. sym (h.same n.0 k (ap (option_map (λ (x : ℕ × Rec). x.1)) e) unmade))
-same_one tell g log h k (event, _) e = refl
+same_one g log h k (event, _) e = refl
 
-pub pending_alike : (tell : Telling) (g : Input) (log : Log) → AreAtLastHomes g log → pending_at tell (last_home g log) g log ≡ pending_of tell g log
-pending_alike tell g log h = grind (arith, chosen_alike, same_one)
+pub pending_alike : (g : Input) (log : Log) → AreAtLastHomes g log → all_at_last g log ≡ pending_of g log
+pending_alike g log h = chosen_alike (pending_at_last g log (history log)) (pending_in g log) (history log) (same_one g log h)

@@ -1,5 +1,5 @@
 -- Each transaction that was submitted and isn't committed is listed as pending.
-use Rattle.sdd_run.proofs.All.{AreNumbered, Bool, ClassState, Commit, HasSoundLists, History, Input, IsClass, IsClassOf, IsListed, IsPermitted, IsQueued, IsRecordAt, IsSubmitted, Line, List, Log, None, NonePasses, Option, Pending, Queued, Rec, Site, Some, Standing, Submit, T, WasCommitted, Why, [], active, ap, arith, at_home, at_map, class_at, class_of, commits, committed_or_queued, cons_option, either, eqb-true, false, filter_map, history, home, home_setting, if◌then◌else◌, in_runs, inl, inr, is_some, kept_there, list_any, local_of, map, none_found, not, or_standing, pending_as, pending_by, pending_of, position, positive, queue, queued_at, reason_of, refl, runs, same_number, same_or_not, setting_of, slice_get, standing_among, standing_at, standing_at_t, standing_at_u, standing_by, standing_in, standing_of, submitted_at, subst, suc, sym, tm_no, true, txn_no, underway, waiting, why_of, zero, ℕ, ◌-◌, ◌==◌, ◌∙◌, ◌∷◌, ◌≡◌, ◌⊎◌}
+use Rattle.sdd_run.proofs.All.{AreNumbered, Bool, ClassState, Commit, HasSoundLists, History, Input, IsClass, IsClassOf, IsListed, IsPermitted, IsQueued, IsRecordAt, IsSubmitted, Line, List, Log, None, NonePasses, Option, Pending, Queued, Rec, Site, Some, Standing, Submit, T, WasCommitted, Why, [], active, ap, arith, at_home, at_map, class_at, class_of, commits, committed_or_queued, cons_option, either, eqb-true, false, filter_map, history, home, home_setting, if◌then◌else◌, in_runs, inl, inr, is_some, kept_there, list_any, local_of, map, none_found, not, or_standing, pending_as, pending_in, pending_of, position, positive, queue, queued_at, refl, runs, same_number, same_or_not, setting_of, slice_get, standing_among, standing_at, standing_at_t, standing_at_u, standing_by, standing_in, standing_of, subst, suc, sym, tm_no, true, txn_no, underway, waiting, why_of, why_pending, zero, ℕ, ◌-◌, ◌==◌, ◌∙◌, ◌∷◌, ◌≡◌, ◌⊎◌}
 use Rattle.sdd_run.proofs.LastHomes.{submitted_there}
 use Rattle.sdd_obligations.specs.All.{Attempt}
 use Rattle.sdd_obligations.specs.attempt.declared.standing.Standing.TheVariants as standings
@@ -87,7 +87,7 @@ why_here g log (standings.Underway class None at) h = (reasons.Underway at, refl
 why_here g log (standings.Underway class (Some ts) at) h = (_, refl)
 
 reason_here : (g : Input) (log : Log) (n : ℕ) → IsPermitted g log → IsQueued g log n
-    → (w : Why) × (reason_of (standing_at standing_at_u standing_at_t) (submitted_at log) g log n ≡ Some w)
+    → (w : Why) × (why_pending g log n ≡ Some w)
 reason_here g log n permitted x = grind (arith, submitted_there, here_at, why_here, home_setting, at_home)
 
 -- some record commits it, or it is listed
@@ -119,10 +119,10 @@ listed_at f (x ∷ rest) n (suc k) one e h =
     elim (f x) as (λ o. (j : ℕ) × (slice_get (cons_option o (filter_map f rest)) j ≡ Some one)) [ None ↦ i | Some y ↦ (suc i.0, i.1) ]
 
 pub each_listed : (g : Input) (log : Log) → IsPermitted g log → HasSoundLists g log → AreNumbered g log → (n k : ℕ) → IsSubmitted (history log) n k
-    → WasCommitted (history log) n ⊎ IsListed (pending_of (standing_at standing_at_u standing_at_t) g log) n
+    → WasCommitted (history log) n ⊎ IsListed (pending_of g log) n
 each_listed g log permitted lists numbered n k submitted =
     elim (list_any (commits n) (history log)) as (λ b. list_any (commits n) (history log) ≡ b
-    → WasCommitted (history log) n ⊎ IsListed (pending_of (standing_at standing_at_u standing_at_t) g log) n) [
+    → WasCommitted (history log) n ⊎ IsListed (pending_of g log) n) [
       | true ↦ λ e. inl (was_committed (history log) n e)
       | false ↦ λ e. elim (committed_or_queued g log permitted lists numbered n k submitted) [
         | inl w ↦ inl w
@@ -130,7 +130,7 @@ each_listed g log permitted lists numbered n k submitted =
             let w = reason_here g log n permitted x in
             let left : Pending = record { txn = txn_no n; why = w.0 } in
             let reason = w.1 in
-            let i = listed_at (pending_by (standing_at standing_at_u standing_at_t) (submitted_at log) g log (history log))
+            let i = listed_at (pending_in g log)
             (history log) n k left submitted (λ event. rw e (ap (pending_as (txn_no n)) reason)) in
             inr (record { place = i.0; one = left; there = i.1; txn_is = refl })
       ]

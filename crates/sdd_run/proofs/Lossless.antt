@@ -1,5 +1,5 @@
 -- Each transaction that was submitted stands in the order once, or is listed as pending once.
-use Rattle.sdd_run.proofs.All.{Catalogue, History, Homes, Input, IsListed, IsSerial, IsSubmitted, List, Log, None, Option, Pending, Rec, Some, Submit, Telling, TxnNo, WasCommitted, [], any_commit, ap, arith, commits, cond, cons_option, eq-eqb, false, filter_map, history, inl, inr, list_any, map, ne_eqb, not_both, option_map, pending_by, pending_of, refl, same_number, slice_get, submitted_at, subst, suc, sym, times_in, times_pending, true, txn_no, zero, ℕ, ◌+◌, ◌∙◌, ◌∷◌, ◌≡◌, ◌≢◌, ◌⊎◌}
+use Rattle.sdd_run.proofs.All.{Catalogue, History, Input, IsListed, IsSerial, IsSubmitted, List, Log, None, Option, Pending, Rec, Some, Submit, TxnNo, WasCommitted, [], any_commit, ap, arith, commits, cond, cons_option, eq-eqb, false, filter_map, history, inl, inr, list_any, map, ne_eqb, not_both, option_map, pending_in, pending_of, refl, same_number, slice_get, submitted_at, subst, suc, sym, times_in, times_pending, true, txn_no, zero, ℕ, ◌+◌, ◌∙◌, ◌∷◌, ◌≡◌, ◌≢◌, ◌⊎◌}
 use Rattle.sdd_run.proofs.Once.{none_there, times_more}
 
 -- how often what is chosen of a history names a transaction
@@ -61,46 +61,46 @@ chosen_from f (x ∷ h) j p e =
 
 -- what is listed was submitted, and no record commits it
 
-of_submit : (tell : Telling) (homes : Homes) (g : Input) (log : Log) (all : History) (e : ℕ × Rec) (p : Pending) → pending_by tell homes g log all e ≡ Some p
-    → (e.1 ≡ Submit p.txn) × (list_any (commits p.txn.0) all ≡ false)
-of_submit tell homes g log all e p h8 = grind (arith, list_any)
+of_submit : (g : Input) (log : Log) (e : ℕ × Rec) (p : Pending) → pending_in g log e ≡ Some p
+    → (e.1 ≡ Submit p.txn) × (list_any (commits p.txn.0) (history log) ≡ false)
+of_submit g log e p h8 = grind (arith, list_any)
 
 pub commits_it : (all : History) (n : ℕ) → WasCommitted all n → list_any (commits n) all ≡ true
 commits_it all n w = any_commit all (commits n) n (λ e attempt reply changes values rows. same_number n) w
 
 -- what is listed was submitted
-pub listed_submits : (tell : Telling) (g : Input) (log : Log) (j : ℕ) (p : Pending) → slice_get (pending_of tell g log) j ≡ Some p
+pub listed_submits : (g : Input) (log : Log) (j : ℕ) (p : Pending) → slice_get (pending_of g log) j ≡ Some p
     → (k : ℕ) × IsSubmitted (history log) p.txn.0 k
-listed_submits tell g log j p e =
-    let x = chosen_from (pending_by tell (submitted_at log) g log (history log)) (history log) j p e in
-    (x.place, (ap (option_map (λ (x : ℕ × Rec). x.1)) x.there ∙ ap (λ x. Some x) ((of_submit tell (submitted_at log) g log (history log) x.entry p x.gives).0)))
+listed_submits g log j p e =
+    let x = chosen_from (pending_in g log) (history log) j p e in
+    (x.place, (ap (option_map (λ (x : ℕ × Rec). x.1)) x.there ∙ ap (λ x. Some x) ((of_submit g log x.entry p x.gives).0)))
 
-module _ (tell : Telling) (g : Input) (log : Log) where
+module _ (g : Input) (log : Log) where
   -- one that is committed isn't listed
-  not_listed : (n : ℕ) → WasCommitted (history log) n → times_pending n (pending_of tell g log) ≡ 0
+  not_listed : (n : ℕ) → WasCommitted (history log) n → times_pending n (pending_of g log) ≡ 0
   not_listed n w =
-      count_none (pending_by tell (submitted_at log) g log (history log)) (history log) n (grind (arith, not_both, list_any, commits, history, commits_it, of_submit, submitted_at))
+      count_none (pending_in g log) (history log) n (grind (arith, not_both, list_any, commits, history, commits_it, of_submit, submitted_at))
 
   -- one that is listed is listed once, and isn't committed
   listed_once : ((n j k : ℕ) → IsSubmitted (history log) n j → IsSubmitted (history log) n k → j ≡ k)
-      → (n : ℕ) → IsListed (pending_of tell g log) n → (times_pending n (pending_of tell g log) ≡ 1) × (list_any (commits n) (history log) ≡ false)
+      → (n : ℕ) → IsListed (pending_of g log) n → (times_pending n (pending_of g log) ≡ 1) × (list_any (commits n) (history log) ≡ false)
   listed_once one n x =
-      let c = chosen_from (pending_by tell (submitted_at log) g log (history log)) (history log) x.place x.one x.there in
+      let c = chosen_from (pending_in g log) (history log) x.place x.one x.there in
       let at : (j : ℕ) (e : ℕ × Rec) (q : Pending) → slice_get (history log) j ≡ Some e
-      → pending_by tell (submitted_at log) g log (history log) e ≡ Some q → q.txn.0 ≡ n → IsSubmitted (history log) n j =
+      → pending_in g log e ≡ Some q → q.txn.0 ≡ n → IsSubmitted (history log) n j =
       λ j e q there gives same.
       (ap (option_map (λ (x : ℕ × Rec). x.1)) there
-      ∙ ap (λ x. Some x) ((of_submit tell (submitted_at log) g log (history log) e q gives).0
+      ∙ ap (λ x. Some x) ((of_submit g log e q gives).0
       ∙ ap (λ m. Submit (txn_no m)) same)) in (
-        count_one (pending_by tell (submitted_at log) g log (history log)) (history log) n c.place c.entry x.one c.there c.gives x.txn_is
+        count_one (pending_in g log) (history log) n c.place c.entry x.one c.there c.gives x.txn_is
             (λ j e q there gives same. one n j c.place (at j e q there gives same) (at c.place c.entry x.one c.there c.gives x.txn_is)),
-        subst (λ m. list_any (commits m) (history log) ≡ false) x.txn_is (of_submit tell (submitted_at log) g log (history log) c.entry x.one c.gives).1,
+        subst (λ m. list_any (commits m) (history log) ≡ false) x.txn_is (of_submit g log c.entry x.one c.gives).1,
       )
 
   -- so each transaction that was submitted stands in the order or in the list, and in one of them once
   pub in_one : (cat : Catalogue) (order : List TxnNo) → IsSerial cat (history log) order → ((n : ℕ) → WasCommitted (history log) n → times_in n order ≡ 1)
       → ((n j k : ℕ) → IsSubmitted (history log) n j → IsSubmitted (history log) n k → j ≡ k)
-      → (n : ℕ) → WasCommitted (history log) n ⊎ IsListed (pending_of tell g log) n → times_in n order + times_pending n (pending_of tell g log) ≡ 1
+      → (n : ℕ) → WasCommitted (history log) n ⊎ IsListed (pending_of g log) n → times_in n order + times_pending n (pending_of g log) ≡ 1
   in_one cat order serial in_order one n (inl w) = let a = in_order n w in let b = not_listed n w in omega (arith, a, b)
   in_one cat order serial in_order one n (inr x) =
       let l = listed_once one n x in

@@ -1,5 +1,5 @@
 -- What is listed as pending was submitted, isn't committed, and waits for what is said of it.
-use Rattle.sdd_run.proofs.All.{Contains, Contains-from_filter_map, D, FitsInput, Input, IsPermitted, IsTruePending, IsTrueReason, IsUnderway, List, Log, None, Option, Pending, Rec, Some, Standing, Submit, TellsPending, TxnNo, Waiting, WasFirst, Why, [], any_commit, ap, arith, commits, cons_option, dm_no, false, filter_map, history, if◌then◌else◌, list_any, not_both, option_map, pending_as, pending_by, pending_of, reason_of, refl, same_number, site_due, slice_get, slice_get-get_or, standing_at, standing_at_t, standing_at_u, status_at, submitted_at, subst, suc, sym, true, under_way, wait_at, waits_of, why_of, zero, ℕ, ◌+◌, ◌<◌, ◌∙◌, ◌∷◌, ◌≡◌}
+use Rattle.sdd_run.proofs.All.{Contains, Contains-from_filter_map, D, FitsInput, Input, IsPermitted, IsTruePending, IsTrueReason, IsUnderway, List, Log, None, Option, Pending, Rec, Some, Standing, Submit, TellsPending, TxnNo, Waiting, WasFirst, Why, [], any_commit, ap, arith, commits, cons_option, dm_no, false, filter_map, history, if◌then◌else◌, list_any, not_both, option_map, pending_as, pending_in, pending_of, refl, same_number, site_due, slice_get, slice_get-get_or, status_at, submitted_at, subst, suc, sym, true, under_way, wait_at, waits_of, why_of, why_pending, zero, ℕ, ◌+◌, ◌<◌, ◌∙◌, ◌∷◌, ◌≡◌}
 use Rattle.sdd_obligations.specs.All.{Attempt}
 use Rattle.sdd_obligations.specs.attempt.declared.standing.Standing.TheVariants as standings
 use Rattle.sdd_report.specs.declared.pending.Why.TheVariants as reasons
@@ -121,9 +121,9 @@ module _ (g : Input) (log : Log) (permitted : IsPermitted g log) (good : FitsInp
   record IsListedFor (x : ℕ × Rec) (one : Pending) : Type 0 where
     submission : x.1 ≡ Submit one.txn
     uncommitted : list_any (commits one.txn.0) (history log) ≡ false
-    reason : reason_of (standing_at standing_at_u standing_at_t) (submitted_at log) g log one.txn.0 ≡ Some one.why
+    reason : why_pending g log one.txn.0 ≡ Some one.why
 
-  listed_with : (event : ℕ) (n : TxnNo) (one : Pending) (o : Option Why) → reason_of (standing_at standing_at_u standing_at_t) (submitted_at log) g log n.0 ≡ o
+  listed_with : (event : ℕ) (n : TxnNo) (one : Pending) (o : Option Why) → why_pending g log n.0 ≡ o
       → list_any (commits n.0) (history log) ≡ false → pending_as n o ≡ Some one → IsListedFor (event, Submit n) one
   listed_with event n one None r u e = cc
   listed_with event n one (Some why) r u e =
@@ -131,16 +131,16 @@ module _ (g : Input) (log : Log) (permitted : IsPermitted g log) (good : FitsInp
       subst (IsListedFor (event, Submit n)) same (record { submission = refl; uncommitted = u; reason = r })
 
   listed_for : (x : ℕ × Rec) (one : Pending)
-      → pending_by (standing_at standing_at_u standing_at_t) (submitted_at log) g log (history log) x ≡ Some one → IsListedFor x one
+      → pending_in g log x ≡ Some one → IsListedFor x one
   listed_for (event, Submit n) one e =
-      let why = reason_of (standing_at standing_at_u standing_at_t) (submitted_at log) g log n.0 in
+      let why = why_pending g log n.0 in
       elim (list_any (commits n.0) (history log)) as (λ b. list_any (commits n.0) (history log) ≡ b → (if b then None else pending_as n why) ≡ Some one
       → IsListedFor (event, Submit n) one) [ true ↦ λ p q. cc | false ↦ λ p q. listed_with event n one why refl p q ] refl e
   listed_for (event, _) one e = cc
 
-  pending_are_true : (one : Pending) → Contains (pending_of (standing_at standing_at_u standing_at_t) g log) one → IsTruePending g log one
+  pending_are_true : (one : Pending) → Contains (pending_of g log) one → IsTruePending g log one
   pending_are_true one there =
-      let x = Contains-from_filter_map (pending_by (standing_at standing_at_u standing_at_t) (submitted_at log) g log (history log)) (history log) one there in
+      let x = Contains-from_filter_map (pending_in g log) (history log) one there in
       let f = listed_for x.0 one x.2 in
       let place = x.1 in
       let n : ℕ = one.txn.0 in
@@ -149,14 +149,14 @@ module _ (g : Input) (log : Log) (permitted : IsPermitted g log) (good : FitsInp
         submitted = ap (option_map (λ (y : ℕ × Rec). y.1)) (slice_get-get_or (history log) place.0 x.0 place.1 ∙ ap Some place.2) ∙ ap Some f.submission;
         uncommitted = λ w. not_both (list_any (commits n) (history log))
             (any_commit (history log) (commits n) n (λ event attempt reply changes values rows. same_number n) w) f.uncommitted;
-        reason = true_reason n (status_at (standing_at standing_at_u standing_at_t) g log (submitted_at log n) n) one.why
+        reason = true_reason n (status_at g log (submitted_at log n) n) one.why
             (each_is_true g log permitted good idle (submitted_at log n) n) f.reason;
       }
 
-  in_order : (i j : ℕ) (one two : Pending) → i < j → slice_get (pending_of (standing_at standing_at_u standing_at_t) g log) i ≡ Some one
-      → slice_get (pending_of (standing_at standing_at_u standing_at_t) g log) j ≡ Some two → WasFirst (history log) one.txn.0 two.txn.0
+  in_order : (i j : ℕ) (one two : Pending) → i < j → slice_get (pending_of g log) i ≡ Some one
+      → slice_get (pending_of g log) j ≡ Some two → WasFirst (history log) one.txn.0 two.txn.0
   in_order i j one two l e g2 =
-      let m = made_both (pending_by (standing_at standing_at_u standing_at_t) (submitted_at log) g log (history log)) (history log) i j one two l e g2 in
+      let m = made_both (pending_in g log) (history log) i j one two l e g2 in
       let x = listed_for m.first.item one m.first.is in
       let y = listed_for m.second.item two m.second.is in
       record {
@@ -167,5 +167,5 @@ module _ (g : Input) (log : Log) (permitted : IsPermitted g log) (good : FitsInp
         before = m.before;
       }
 
-  pub tells_pending : TellsPending g log (pending_of (standing_at standing_at_u standing_at_t) g log)
+  pub tells_pending : TellsPending g log (pending_of g log)
   tells_pending = record { each = pending_are_true; in_order = in_order }

@@ -1,5 +1,5 @@
 -- A run that a settle or a redeclare ends leaves nothing undone, where no data module is down at its end.
-use Rattle.sdd_run.proofs.All.{AllCommitted, AreAllApplied, AreTables, Attempt, Catalogue, Commit, Committed, Contains, Contains-from_filter, Contains-from_flat_map, Contains-from_map, CopyTable, D, EndsAtRest, EndsQuiet, Entry, HasCommit, HasSoundLists, History, Input, IsAtEnd, IsAttempt, IsCommitted, IsLawful, IsListed, IsOrderable, IsRecordAt, IsSerial, IsSettled, IsSoundCatalogue, IsSubmitted, IsTheLog, IsValid, List, Log, LosesNothing, None, NoneIsDown, SubmitGiven, TellsAllCommitted, TxnNo, WasCommitted, Workload, ap, applied_at_copies, dated, dm_no, has_copy, history, input_of, Rests, arith, lawful_numbered, lawful_permitted, redeclares, up_at_redeclares, ◌++◌, length, local_of, next, numbers_to, order_of, report_of, setting_of, settled_is_committed, settled_is_finished, settled_is_quiet, standing_at, standing_at_t, standing_at_u, subst, sym, table_of, tables_at, tables_of, times_in, txn_no, whole_in, with_event, ℕ, ◌≡◌, ◌⊎◌}
+use Rattle.sdd_run.proofs.All.{AllCommitted, AreAllApplied, AreTables, Attempt, Catalogue, Commit, Committed, Contains, Contains-from_filter, Contains-from_flat_map, Contains-from_map, CopyTable, D, EndsAtRest, EndsQuiet, Entry, HasCommit, HasSoundLists, History, Input, IsAtEnd, IsAttempt, IsCommitted, IsLawful, IsListed, IsOrderable, IsRecordAt, IsSerial, IsSettled, IsSoundCatalogue, IsSubmitted, IsTheLog, IsValid, List, Log, LosesNothing, None, NoneIsDown, Rests, SubmitGiven, TellsAllCommitted, TxnNo, WasCommitted, Workload, ap, applied_at_copies, arith, dated, dm_no, has_copy, history, input_of, lawful_numbered, lawful_permitted, length, local_of, next, numbers_to, order_of, redeclares, report_of, setting_of, settled_is_committed, settled_is_finished, settled_is_quiet, subst, sym, table_of, tables_at, tables_of, times_in, txn_no, up_at_redeclares, whole_in, with_event, ℕ, ◌++◌, ◌≡◌, ◌⊎◌}
 use Rattle.sdd_progress.proofs.Committed.{all_committed as all_committed_of}
 use Rattle.sdd_progress.proofs.Finished.{finished}
 use Rattle.sdd_progress.proofs.IdleAtRedeclares.{idle_at_redeclares}
@@ -122,7 +122,7 @@ module _ (cat : Catalogue) (tables : List (List Entry)) (work : Workload) (sound
       record {
         committed = all;
         in_order = λ n place there. is_there_once (whole_in cat work) (history log) (order_of cat work log) fine serial n (all n place there);
-        none_pending = none_pending (standing_at standing_at_u standing_at_t) (input_of cat tables work) log all;
+        none_pending = none_pending (input_of cat tables work) log all;
       }
 
   -- each transaction that was submitted is committed or listed
@@ -135,7 +135,7 @@ module _ (cat : Catalogue) (tables : List (List Entry)) (work : Workload) (sound
   pub nothing_lost : IsOrderable (whole_in cat work) (history log) → IsSerial (whole_in cat work) (history log) (order_of cat work log)
       → ((n j k : ℕ) → IsSubmitted (history log) n j → IsSubmitted (history log) n k → j ≡ k) → LosesNothing (report_of (input_of cat tables work) log)
   nothing_lost fine serial one n place there =
-      in_one (standing_at standing_at_u standing_at_t) (input_of cat tables work) log (whole_in cat work) (order_of cat work log) serial
+      in_one (input_of cat tables work) log (whole_in cat work) (order_of cat work log) serial
       (λ m w. is_there_once (whole_in cat work) (history log) (order_of cat work log) fine serial m w) one n (listed n place there)
 
   -- at each copy all is applied that changed its fragment

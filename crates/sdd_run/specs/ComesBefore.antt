@@ -1,7 +1,11 @@
 -- Where transactions stand in an order, and which of two was submitted first.
 use Rattle.std.specs.Prelude.{ℕ, ◌==◌, ◌<◌, ◌≡◌, List, [], ◌∷◌, ◌++◌, Contains, count_by, map, refl}
 use Rattle.std.proofs.Common.{lit<}
-use Rattle.sdd_obligations.specs.All.{Committed, History, IsSubmitted, TxnNo, class_no, txn_no}
+use Rattle.sdd_obligations.specs.base.Numbers.{class_no, txn_no}
+use Rattle.sdd_obligations.specs.base.declared.number.TxnNo.{TxnNo}
+use Rattle.sdd_obligations.specs.history.Records.{History}
+use Rattle.sdd_obligations.specs.laws.Deeds.{IsSubmitted}
+use Rattle.sdd_obligations.specs.serial_orders.Attempts.{Committed}
 use Rattle.sdd_report.specs.declared.pending.Pending.{Pending}
 use Rattle.sdd_report.specs.declared.pending.Why.TheVariants.{Queued}
 

@@ -2,15 +2,31 @@
 -- them waits for. How the lines are made isn't said here.
 use Rattle.std.specs.Prelude.{ℕ, suc, ◌-◌, ◌==◌, ◌≡◌, ◌<◌, ◌≤◌, ◌++◌, ◌∷◌, Bool, true, false, not, ◌&&◌, if◌then◌else◌, List, Contains, filter, map, slice_get, Option, Some, None}
 use Rattle.std.specs.List.{AllByRecursion, list_any}
-use Rattle.sdd_obligations.specs.All.{Asks, Attempt, Cond, D, History, Input, IsClass, IsFrom1To, IsModule, IsSubmitted, Log, Queued, Read, T, TmCounts, Turn, U, Use, active, class_no, counts, head, head_of, history, home, last_served, local_of, numbers_to, passed, pipe, queue, setting_of, time_at, turn_at, txn_no, waits}
-use Rattle.sdd_obligations.specs.Turns.{Refused, Replied, Silent}
-use Rattle.sdd_obligations.specs.base.Words.{tail_of}
+use Rattle.sdd_obligations.specs.Turns.{Asks, Refused, Replied, Silent, Turn, turn_at}
+use Rattle.sdd_obligations.specs.attempt.Attempts.{Attempt, active}
+use Rattle.sdd_obligations.specs.attempt.Queues.{Queued, queue}
+use Rattle.sdd_obligations.specs.base.Numbers.{class_no, time_at, txn_no}
+use Rattle.sdd_obligations.specs.base.Words.{head_of, tail_of}
+use Rattle.sdd_obligations.specs.base.declared.condition.Cond.{Cond}
+use Rattle.sdd_obligations.specs.base.declared.site.Site.TheVariants.{D, T, U}
+use Rattle.sdd_obligations.specs.base.declared.usage.Use.{Use}
+use Rattle.sdd_obligations.specs.catalog.Catalogue.{numbers_to}
+use Rattle.sdd_obligations.specs.dm.Pipes.{pipe, waits}
+use Rattle.sdd_obligations.specs.history.Records.{History}
+use Rattle.sdd_obligations.specs.invariants.Steps.{home}
+use Rattle.sdd_obligations.specs.laws.Deeds.{IsSubmitted}
+use Rattle.sdd_obligations.specs.logs.Entries.{Input, Log, history}
+use Rattle.sdd_obligations.specs.logs.Locals.{local_of, setting_of}
+use Rattle.sdd_obligations.specs.pipe.Pipe.{head, passed}
+use Rattle.sdd_obligations.specs.serial_orders.Numbers.{IsClass, IsFrom1To, IsModule}
+use Rattle.sdd_obligations.specs.umod.Views.{TmCounts, counts, last_served}
+use Rattle.sdd_obligations.specs.wire.declared.msg.Msg.TheVariants.{Read}
+use Rattle.sdd_progress.specs.Committed.{WasCommitted}
+use Rattle.sdd_progress.specs.Quiet.{at_home, at_module}
 use Rattle.sdd_report.specs.declared.pending.Pending.{Pending}
 use Rattle.sdd_report.specs.declared.pending.Waiting.{Waiting}
 use Rattle.sdd_report.specs.declared.pending.Why.{Why}
 use Rattle.sdd_report.specs.declared.pending.Why.TheVariants.{Queued as InQueue, Underway, Waits}
-use Rattle.sdd_progress.specs.Committed.{WasCommitted}
-use Rattle.sdd_progress.specs.Quiet.{at_home, at_module}
 
 -- the queue of a class
 

@@ -2,34 +2,44 @@
 -- classes: then the whole catalogue has the classes of all lists, and one list after the other is in force, with the
 -- protocol table of its own catalogue. Without further lists the whole catalogue is the catalogue itself.
 use Rattle.std.specs.Prelude.{ℕ, ◌≡◌, List, [], ◌∷◌, ◌++◌, Contains, length, map}
-use Rattle.sdd_obligations.specs.All.{AreAllApplied, Catalogue, Committed, EndsByLimit, Era, History, Input, IsAttempt, IsClassOf, IsCommitted, IsOrderable, IsSerial, IsTable, IsTheLog, Log, Reply, Rests, TxnNo, history, marks, numbers_to, run}
 use Rattle.std.specs.List.{All, AllZip}
-use Rattle.sdd_obligations.specs.protocol.declared.entry.Entry.{Entry}
-use Rattle.sdd_script.specs.declared.workload.Workload.{Workload}
 use Rattle.sdd_lists.specs.InForce.{eras_in, whole_in}
 use Rattle.sdd_make.specs.Summary.{summary_of, summary_text}
+use Rattle.sdd_obligations.specs.base.declared.number.TxnNo.{TxnNo}
+use Rattle.sdd_obligations.specs.base.declared.reply.Reply.{Reply}
+use Rattle.sdd_obligations.specs.catalog.Catalogue.{Catalogue, numbers_to}
+use Rattle.sdd_obligations.specs.graph.Edges.{IsClassOf}
+use Rattle.sdd_obligations.specs.history.Records.{History}
 use Rattle.sdd_obligations.specs.lang.Database.{Database}
 use Rattle.sdd_obligations.specs.laws.Copied.{AreAppliedAlike}
-use Rattle.sdd_obligations.specs.laws.Replay.{IsReplyOf}
-use Rattle.sdd_obligations.specs.serial_orders.Attempts.{Attempt}
+use Rattle.sdd_obligations.specs.laws.Replay.{AreAllApplied, IsReplyOf, run}
+use Rattle.sdd_obligations.specs.logs.Entries.{Input, Log, history, marks}
+use Rattle.sdd_obligations.specs.logs.Lawful.{EndsByLimit, IsTheLog}
+use Rattle.sdd_obligations.specs.logs.Resting.{Rests}
+use Rattle.sdd_obligations.specs.protocol.Protocols.{IsTable}
+use Rattle.sdd_obligations.specs.protocol.declared.entry.Entry.{Entry}
+use Rattle.sdd_obligations.specs.serial_orders.Attempts.{Attempt, Committed, IsAttempt, IsCommitted}
+use Rattle.sdd_obligations.specs.serial_orders.Orders.{IsOrderable, IsSerial}
 use Rattle.sdd_obligations.specs.serial_orders.SerialOrder.{serial_order}
-use Rattle.sdd_report.specs.Committed.{names_of, order_line}
-use Rattle.sdd_report.specs.Replies.{replies_along}
-use Rattle.sdd_report.specs.Report.{Report, after_replies, report_text}
-use Rattle.sdd_report.specs.Trace.{trace}
-use Rattle.sdd_report.specs.declared.copies.CopyTable.{CopyTable}
-use Rattle.sdd_run.specs.Clocks.{HasLowClocks}
-use Rattle.sdd_world.specs.Copies.{rows_left}
+use Rattle.sdd_obligations.specs.site_module.SiteLog.{Era}
 use Rattle.sdd_progress.specs.Committed.{AllCommitted}
 use Rattle.sdd_progress.specs.Few.{AreFewRejected}
 use Rattle.sdd_progress.specs.Free.{IsFree}
 use Rattle.sdd_progress.specs.HangsOn.{HoldsUpUndeclared}
 use Rattle.sdd_progress.specs.Outage.{CostsNoMore}
-use Rattle.sdd_run.specs.Free.{IsUndisturbed}
-use Rattle.sdd_run.specs.Settled.{EndsAtRest, EndsQuiet, LosesNothing, NoneIsDown, TellsAllCommitted}
+use Rattle.sdd_report.specs.Committed.{names_of, order_line}
+use Rattle.sdd_report.specs.Replies.{replies_along}
+use Rattle.sdd_report.specs.Report.{Report, after_replies, report_text}
+use Rattle.sdd_report.specs.Trace.{trace}
+use Rattle.sdd_report.specs.declared.copies.CopyTable.{CopyTable}
+use Rattle.sdd_script.specs.declared.workload.Workload.{Workload}
+use Rattle.sdd_world.specs.Copies.{rows_left}
+use Rattle.sdd_run.specs.Clocks.{HasLowClocks}
 use Rattle.sdd_run.specs.ComesBefore.{ComesBefore, IsSubmittedBefore, times_in}
+use Rattle.sdd_run.specs.Free.{IsUndisturbed}
 use Rattle.sdd_run.specs.Reasons.{TellsPending}
 use Rattle.sdd_run.specs.Reports.{report_of}
+use Rattle.sdd_run.specs.Settled.{EndsAtRest, EndsQuiet, LosesNothing, NoneIsDown, TellsAllCommitted}
 
 -- each class list with its protocol table
 abbrev pub eras_with_tables : List Catalogue → List (List Entry) → List Era

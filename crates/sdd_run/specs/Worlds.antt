@@ -1,6 +1,8 @@
 -- Worlds of a run.
 use Rattle.std.specs.Prelude.{List}
-use Rattle.sdd_obligations.specs.All.{Catalogue, IsTheLog, Log}
+use Rattle.sdd_obligations.specs.catalog.Catalogue.{Catalogue}
+use Rattle.sdd_obligations.specs.logs.Entries.{Log}
+use Rattle.sdd_obligations.specs.logs.Lawful.{IsTheLog}
 use Rattle.sdd_obligations.specs.protocol.declared.entry.Entry.{Entry}
 use Rattle.sdd_script.specs.declared.workload.Workload.{Workload}
 use Rattle.sdd_world.specs.Represents.{Represents}

@@ -2,10 +2,9 @@
 ghost use Rattle.std.specs.Prelude.{◌≡◌, IfOk};
 ghost use Rattle.sdd_obligations.specs.All.{Input, IsOrderable, Log, history};
 ghost use Rattle.sdd_report.specs.Report.{report_text as text_of};
-ghost use Rattle.sdd_run.specs.Reports.{report_by};
-ghost use Rattle.sdd_world.specs.Pending.{AreAtLastHomes};
+ghost use Rattle.sdd_run.specs.Reports.{report_of};
+ghost use Rattle.sdd_world.specs.LastHomes.{AreAtLastHomes};
 ghost use Rattle.sdd_world.specs.Represents.{Represents};
-ghost use Rattle.sdd_world.specs.Standings.{standing_of};
 
 use sdd_obligations::{NoMemory, Pages, serial_order};
 use sdd_report::{Report, report_pages};
@@ -19,7 +18,7 @@ pub fn report_on(alloc: Global, world: &World<'_>) -> Result<Pages, NoMemory>
     requires { (g : Input) × (log : Log) × IsOrderable g.catalogue (history log)
         × Represents world.now g log }
     ensures { IfOk result (λ text. (g : Input) (log : Log) → Represents world.now g log
-        → AreAtLastHomes g log → text ≡ text_of (report_by standing_of g log)) }
+        → AreAtLastHomes g log → text ≡ text_of (report_of g log)) }
 {
     let catalogue = world.whole();
     let history = world.history().as_slice();

@@ -30,6 +30,7 @@ pub mod SoundLists
 pub mod SoundStates
 pub mod SpellingLaws
 pub mod StepLaws
+pub mod Submissions
 pub mod UpdateLaws
 pub mod UseLaws
 pub mod ValueLaws

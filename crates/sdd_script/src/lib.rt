@@ -28,6 +28,7 @@ mod reader;
 mod redeclaring;
 mod state;
 mod statements;
+mod submitted;
 mod updates;
 mod values;
 mod walk;

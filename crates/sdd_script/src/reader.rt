@@ -1,7 +1,6 @@
 //! One line of a workload, by its words.
-ghost use Rattle.std.specs.Prelude.{◌≡◌, ◌==◌, OnOk};
-ghost use Rattle.std.specs.List.{list_any};
-ghost use Rattle.sdd_lang.specs.All.{GivesReading, TxnNo};
+ghost use Rattle.std.specs.Prelude.{◌≡◌, OnOk};
+ghost use Rattle.sdd_lang.specs.All.{GivesReading};
 ghost use Rattle.sdd_script.specs.Few.{short};
 ghost use Rattle.sdd_script.specs.Rules.{rule_in};
 ghost use Rattle.sdd_script.specs.LineRules.{row_rules, opened, txn_rules, with_statement, statement_rules, closed, done_rules, is_submitted, with_submitted, with_event, event_rules, end_rules, keyword_rules, words_rules, sound_rules, line_rules};
@@ -20,8 +19,9 @@ use crate::place::{Header, Place};
 use crate::redeclaring::may_follow;
 use crate::state::State;
 use crate::statements::read_statement;
+use crate::submitted::Submitted;
 use crate::values::read_row;
-use sdd_lang::{Catalogue, Event, MAX_EVENTS, MAX_TXNS, Name, NoMemory, Stmt, TmNo, Txn, TxnNo};
+use sdd_lang::{Catalogue, Event, MAX_EVENTS, MAX_TXNS, Name, NoMemory, Stmt, TmNo, Txn};
 use sdd_words::{Tokens, are_free, are_sound, is_free, text_of, words_of};
 use std::alloc::Global;
 use std::mem;
@@ -155,26 +155,20 @@ fn done_line(alloc: Global, state: &mut State, words: &mut Tokens<'_>) -> Result
     }
 }
 
-fn has_number(submitted: &[TxnNo], txn: TxnNo) -> bool
-    ensures { result ≡ list_any (λ (t : TxnNo). t.0 == txn.0) submitted.now }
-{
-    submitted.iter().any(|other| other.0 == txn.0)
-}
-
-fn is_submitted(submitted: &[TxnNo], event: Event) -> bool
+fn is_submitted(submitted: &Submitted, event: Event) -> bool
     ensures { result ≡ is_submitted submitted.now event }
 {
     match event {
-        Event::Submit(txn) => has_number(submitted, txn),
+        Event::Submit(txn) => submitted.has(txn),
         _ => false,
     }
 }
 
-fn note_submitted(submitted: &mut Grown<TxnNo>, event: Event) -> Result<(), NoMemory>
+fn note_submitted(submitted: &mut Submitted, event: Event) -> Result<(), NoMemory>
     ensures { OnOk result (submitted.new ≡ with_submitted submitted.old event) }
 {
     match event {
-        Event::Submit(txn) => submitted.push(txn),
+        Event::Submit(txn) => submitted.add(txn),
         _ => Ok(()),
     }
 }
@@ -184,7 +178,7 @@ fn add_event(catalogue: &Catalogue, state: &mut State, event: Event) -> Result<(
 {
     must(
         WorkRule::SubmittedTwice,
-        !is_submitted(state.submitted.as_slice(), event),
+        !is_submitted(&state.submitted, event),
     )?;
     must(
         WorkRule::BadEvent,

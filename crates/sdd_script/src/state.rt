@@ -1,7 +1,8 @@
 use crate::grown::Grown;
 use crate::names::Names;
 use crate::place::Place;
-use sdd_lang::{ClassParts, Event, RelNo, Row, Stmt, Txn, TxnNo};
+use crate::submitted::Submitted;
+use sdd_lang::{ClassParts, Event, RelNo, Row, Stmt, Txn};
 
 /// What the lines so far have said.
 #[derive(Drop)]
@@ -20,6 +21,6 @@ pub struct State {
     /// How many classes there are, those of the catalogue, of the lists and of the open one.
     pub classes: u32,
     /// The transactions that were submitted.
-    pub submitted: Grown<TxnNo>,
+    pub submitted: Submitted,
     pub events: Grown<Event>,
 }

@@ -12,6 +12,7 @@ use crate::names::Names;
 use crate::place::Place;
 use crate::reader::read_line;
 use crate::state::State;
+use crate::submitted::Submitted;
 use crate::workload::Workload;
 use sdd_lang::{Catalogue, MAX_WORKLOAD_BYTES};
 use sdd_words::{next_line, text_of};
@@ -55,7 +56,7 @@ fn nothing_read(alloc: Global, catalogue: &Catalogue) -> State
         statements: Grown::new(alloc),
         lists: Grown::new(alloc),
         classes: catalogue.classes(),
-        submitted: Grown::new(alloc),
+        submitted: Submitted::new(alloc),
         events: Grown::new(alloc),
     }
 }

@@ -1,18 +1,22 @@
 -- The names of std, of the crates below and of this crate's definitions that its proofs cite. Declares nothing.
-pub use Rattle.sdd_shell.specs.Calls.{AnswersAs, Call, ComesTo, EndsAs, FilesAreThere, IsOverFiles}
-pub use Rattle.sdd_shell.specs.Endings.{Ending, FilesRead, HasRoom, IsRead, IsReadTo, ToItsEnd, ToItsLimit}
-pub use Rattle.sdd_shell.specs.NamedFiles.{BlamesCatalogue, BlamesWorkload, OverCatalogue, OverWorkload, TellsOfRun, catalogue_named, workload_named}
+pub use Rattle.sdd_shell.specs.Accepting.{AcceptsCatalogue, AcceptsWorkload, ReadsOne, TellsOfRead}
+pub use Rattle.sdd_shell.specs.Calls.{AnswersAs, Call, ComesTo, EndsAs, FilesAreThere, by_form, no_form}
+pub use Rattle.sdd_shell.specs.Endings.{Ending, FilesRead, HasReadOf, IsRead, IsReadTo, ToItsEnd, ToItsLimit}
+pub use Rattle.sdd_shell.specs.NamedFiles.{BlamesCatalogue, BlamesWorkload, HasFiles, HasReport, catalogue_named, workload_named}
+pub use Rattle.sdd_shell.specs.OverCatalogue.{OverCatalogue}
+pub use Rattle.sdd_shell.specs.OverWorkload.{MakesNoRun, OverWorkload, TellsOfFile}
+pub use Rattle.sdd_shell.specs.Requests.{AnswersRequest, Request, about_catalogue, about_report, about_workload}
 pub use Rattle.sdd_shell.specs.States.{EndsWith, ShelfState, SinkState}
 pub use Rattle.sdd_shell.specs.Status.{line_of}
 pub use Rattle.sdd_shell.specs.Taking.{TakesOrFaults}
-pub use Rattle.sdd_shell.specs.Verdict.{Answers, AtFault, ComesOfFiles, Explains, FaultyCatalogue, FaultyWorkload, IsRefusal, NoForm, PastLimit, Prints, Verdict, status_of, status_of_reading}
+pub use Rattle.sdd_shell.specs.Verdict.{Answers, AtFault, ComesOfFiles, Explains, FaultyCatalogue, FaultyWorkload, IsRefusal, MakesText, NoForm, PastLimit, Prints, Verdict, status_of, status_of_reading}
 pub use Rattle.sdd_shell.specs.declared.status.Status.{Status}
 pub use Rattle.sdd_shell.specs.declared.status.Status.TheVariants.{BadCatalogue, BadWorkload, Done, Limit, NoMemory, ReadFault, Usage, WriteFault}
 pub use Rattle.sdd_catread.specs.Faults.{broken}
 pub use Rattle.sdd_catread.specs.Form.{top}
 pub use Rattle.sdd_catread.specs.Reading.{catalogue_in}
 pub use Rattle.sdd_lang.specs.All.{CatFault, Catalogue, MAX_WORKLOAD_BYTES}
-pub use Rattle.sdd_lang.specs.base.Outside.{HasRead, KeepsOpen, Opened, ReadsTo, Rose, find_file, with_end}
+pub use Rattle.sdd_lang.specs.base.Outside.{KeepsOpen, Opened, ReadsTo, Rose, find_file, with_end}
 pub use Rattle.sdd_lang.specs.base.declared.files.ShelfFile.{ShelfFile}
 pub use Rattle.sdd_lang.specs.base.declared.limits.TheConstants.{MAX_CATALOGUE_BYTES}
 pub use Rattle.sdd_lang.specs.base.declared.reading.ReadError.{ReadError}

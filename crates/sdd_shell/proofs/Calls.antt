@@ -1,40 +1,19 @@
 -- How a call ends, from what it answers.
-use Rattle.sdd_shell.proofs.All.{Answers, AnswersAs, AtFault, Call, ComesOfFiles, ComesTo, Done, EndsAs, EndsWith, Err, Explains, FilesAreThere, FilesRead, HasRoom, IfErr, IsOverFiles, IsRefusal, List, MatchOption, NoForm, None, Ok, OnOk, Option, Prints, ReadFault, Result, Rose, ShelfFile, ShelfState, SinkState, Some, Status, TakesOrFaults, Usage, Verdict, WriteFault, NoMemory, ap, inl, length, line_of, refl, status_of, subst, sym, ℕ, ◌∙◌, ◌≡◌, ◌⊎◌}
+use Rattle.sdd_shell.proofs.All.{Answers, AnswersAs, AnswersRequest, Call, ComesOfFiles, ComesTo, Done, EndsAs, EndsWith, Err, Explains, FilesAreThere, IsRefusal, List, None, Ok, Prints, ReadFault, Result, ShelfFile, ShelfState, SinkState, Some, Status, TakesOrFaults, Usage, Verdict, WriteFault, NoMemory, ap, by_form, inl, line_of, no_form, refl, status_of, subst, sym, ℕ, ◌≡◌, ◌⊎◌}
 use Rattle.sdd_shell.proofs.AtFault.{of_catalogue, of_workload}
 use Rattle.sdd_shell.proofs.FileReads.{if_err_more, not_usage, one_error}
-use Rattle.sdd_shell.proofs.Verdicts.{by_status, done_refuses, explains_more}
-
--- What each program proves of its calls: they come to one status, and where they come to something their files are there.
-pub record IsDecided {Form : Type 0} (call : Call Form) : Type 0 where
-  pub one : (fs : List ShelfFile) (form : Form) (v w : Verdict) → call.comes_to fs form v → call.comes_to fs form w → status_of v ≡ status_of w
-  pub there : (fs : List ShelfFile) (form : Form) (v : Verdict) → call.comes_to fs form v → call.has_files fs form
-
--- What a command answers, of this form.
-pub record FormAnswersAs {Form : Type 0} (call : Call Form) (form : Form) (before after : ShelfState) (answer : Result (List ℕ) Status) : Type 0 where
-  pub answered : (fs : List ShelfFile) → IsOverFiles before.files fs (call.names form) → Answers answer (λ text. text) (call.comes_to fs form)
-  pub ended : OnOk answer (FilesRead before.files before.is_open after.is_open after.opened (call.endings form))
-  pub at_fault : IfErr answer (AtFault (FilesRead before.files before.is_open after.is_open after.opened (call.endings_at_catalogue form))
-      (FilesRead before.files before.is_open after.is_open after.opened (call.endings_at_workload form)))
-  pub fault : IfErr answer (λ s. s ≡ ReadFault → Rose before.faults after.faults)
-  pub errors : IfErr answer ComesOfFiles
-  pub surely : (free : ℕ) (fs : List ShelfFile) → HasRoom before.sure free (length (call.names form))
-      → IsOverFiles before.files fs (call.names form) → call.has_files fs form
-      → IfErr answer (λ s. s ≡ ReadFault → ⊥) × (after.faults ≡ before.faults)
+use Rattle.sdd_shell.proofs.Verdicts.{IsDecided, by_status, done_refuses, explains_more}
 
 module _ {Form : Type 0} (call : Call Form) where
-  comes_by : (fs : List ShelfFile) (words : List (List ℕ)) (form : Form) (v : Verdict) → call.form_in words ≡ Some form → call.comes_to fs form v
-      → ComesTo call fs words v
-  comes_by fs words form v is p = subst (λ o. MatchOption o (v ≡ NoForm) (λ f. call.comes_to fs f v)) (sym is) p
-
   answers_by : (answer : Result (List ℕ) Status) (fs : List ShelfFile) (words : List (List ℕ)) (form : Form) → call.form_in words ≡ Some form
-      → Answers answer (λ text. text) (call.comes_to fs form) → Answers answer (λ text. text) (ComesTo call fs words)
-  answers_by (Ok text) fs words form is p = comes_by fs words form (Prints text) is p
-  answers_by (Err s) fs words form is p = explains_more s (call.comes_to fs form) (ComesTo call fs words) (λ v q. comes_by fs words form v is q) p
+      → Answers answer (λ text. text) ((call.request form).comes_to fs) → Answers answer (λ text. text) (ComesTo call fs words)
+  answers_by (Ok text) fs words form is p = by_form form (Prints text) is p
+  answers_by (Err s) fs words form is p = explains_more s ((call.request form).comes_to fs) (ComesTo call fs words) (λ v q. by_form form v is q) p
 
   -- what is answered to words of a form, and to words of none
 
   pub form_answers : (words : List (List ℕ)) (form : Form) (before after : ShelfState) (answer : Result (List ℕ) Status)
-      → call.form_in words ≡ Some form → (call.is_no_form words → ⊥) → FormAnswersAs call form before after answer
+      → call.form_in words ≡ Some form → (call.is_no_form words → ⊥) → AnswersRequest (call.request form) before after answer
       → AnswersAs call words before after answer
   form_answers words form before after answer is found f = record {
     answered = λ fs over. answers_by answer fs words form is (f.answered fs (rw is at over));
@@ -49,7 +28,7 @@ module _ {Form : Type 0} (call : Call Form) where
   pub no_form_answers : (words : List (List ℕ)) (shelf : ShelfState) → call.form_in words ≡ None → call.is_no_form words
       → AnswersAs call words shelf shelf (Err Usage)
   no_form_answers words shelf is none = record {
-    answered = λ fs over. rw is refl;
+    answered = λ fs over. no_form is;
     ended = tt;
     at_fault = tt;
     usage = (λ e. none, λ _. refl);
@@ -58,15 +37,17 @@ module _ {Form : Type 0} (call : Call Form) where
     surely = λ free fs room over there. (λ e. absurd cc, refl);
   }
 
-  module _ (decided : IsDecided call) where
-    one_of_words : (fs : List ShelfFile) (form : Option Form) (v w : Verdict) → MatchOption form (v ≡ NoForm) (λ f. call.comes_to fs f v)
-        → MatchOption form (w ≡ NoForm) (λ f. call.comes_to fs f w) → status_of v ≡ status_of w
-    one_of_words fs None v w p q = ap status_of (p ∙ sym q)
-    one_of_words fs (Some form) v w p q = decided.one fs form v w p q
+  module _ (decided : (form : Form) → IsDecided (call.request form)) where
+    same_form : (words : List (List ℕ)) (form other : Form) → call.form_in words ≡ Some form → call.form_in words ≡ Some other → other ≡ form
+    same_form words form other e h = cc
 
     one_status : (fs : List ShelfFile) (words : List (List ℕ)) (v w : Verdict) → ComesTo call fs words v → ComesTo call fs words w
         → status_of v ≡ status_of w
-    one_status fs words v w p q = one_of_words fs (call.form_in words) v w p q
+    one_status fs words _ _ (no_form e) (no_form h) = refl
+    one_status fs words _ _ (no_form e) (by_form form w is p) = absurd cc
+    one_status fs words _ _ (by_form form v is p) (no_form e) = absurd cc
+    one_status fs words _ _ (by_form form v is p) (by_form other w known q) =
+        (decided form).one fs v w p (subst (λ f. (call.request f).comes_to fs w) (same_form words form other is known) q)
 
     answered_status : (s : Status) (fs : List ShelfFile) (words : List (List ℕ)) (v : Verdict) → ComesTo call fs words v
         → Explains s (ComesTo call fs words) → (s ≡ ReadFault → ⊥) → (s ≡ status_of v) ⊎ (s ≡ NoMemory)
@@ -77,13 +58,9 @@ module _ {Form : Type 0} (call : Call Form) where
         → ComesTo call fs words (Prints text) → ComesTo call fs words v → IsRefusal v → ⊥
     prints_or_refuses fs words text v p q r = done_refuses v r (one_status fs words (Prints text) v p q)
 
-    words_there : (fs : List ShelfFile) (form : Option Form) (v : Verdict) → MatchOption form (v ≡ NoForm) (λ f. call.comes_to fs f v)
-        → MatchOption form (Unit {0}) (call.has_files fs)
-    words_there fs None v p = tt
-    words_there fs (Some form) v p = decided.there fs form v p
-
     files_there : (fs : List ShelfFile) (words : List (List ℕ)) (v : Verdict) → ComesTo call fs words v → FilesAreThere call fs words
-    files_there fs words v p = words_there fs (call.form_in words) v p
+    files_there fs words _ (no_form e) = rw e tt
+    files_there fs words _ (by_form form v is p) = rw is ((decided form).there fs v p)
 
     -- a text was written whole
     ends_done : (words : List (List ℕ)) (before after : ShelfState) (text : List ℕ) (out out2 err err2 : SinkState)

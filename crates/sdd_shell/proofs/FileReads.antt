@@ -1,5 +1,5 @@
 -- What reading a file says of what is in it.
-use Rattle.sdd_shell.proofs.All.{BlamesCatalogue, BlamesWorkload, Catalogue, ComesOfFiles, Err, Explains, HasRead, IfErr, IfSome, IsErrOf, IsRead, IsReadTo, IsSome, List, MAX_CATALOGUE_BYTES, MAX_WORKLOAD_BYTES, MatchResult, None, Ok, OnOk, Opened, Option, ReadsTo, Result, ShelfFile, Some, Status, ToItsEnd, ToItsLimit, TooLong, Usage, Workload, [], ap, arith, broken, cases_lt, catalogue_named, drop, find_file, inl, inr, length, lt-ltb, nat_lt, option_map, refl, subst, sym, take, top, true, workload, workload_named, ℕ, ◌+◌, ◌<◌, ◌∙◌, ◌≡◌, ◌≤◌}
+use Rattle.sdd_shell.proofs.All.{BlamesCatalogue, BlamesWorkload, Catalogue, ComesOfFiles, Err, Explains, HasReadOf, IfErr, IfSome, IsErrOf, IsRead, IsReadTo, IsSome, List, MAX_CATALOGUE_BYTES, MAX_WORKLOAD_BYTES, MatchResult, None, Ok, OnOk, Opened, Option, ReadsTo, Result, ShelfFile, ShelfState, Some, Status, ToItsEnd, ToItsLimit, TooLong, Usage, Workload, [], ap, arith, broken, cases_lt, catalogue_named, drop, find_file, inl, inr, length, lt-ltb, nat_lt, option_map, refl, subst, sym, take, top, true, workload, workload_named, ℕ, ◌+◌, ◌<◌, ◌∙◌, ◌≡◌, ◌≤◌}
 use Rattle.sdd_catread.specs.Reading.{catalogue_in, parts_in}
 use Rattle.sdd_script.specs.declared.fault.WorkRule.TheVariants as work_rules
 
@@ -76,27 +76,25 @@ workload_gives (Err s) fs cat name bytes reads e =
     subst (λ r. Explains s (BlamesWorkload r)) (sym (read_gives MAX_WORKLOAD_BYTES (workload cat) (long_workloads cat) (find_file fs name) bytes reads)) e
 
 -- a file that was read and has at most as many bytes as the limit was read to its end
-pub read_to_end : (files : Option (List ShelfFile)) (limit : ℕ) (was is_open : ℕ → Type 0) (known : ℕ → Option Opened)
-    (name read : List ℕ) (f : ℕ) → HasRead limit files was is_open known name read f → length read ≤ limit
-    → IsRead files was is_open known (ToItsEnd name) f
-read_to_end files limit was is_open known name read f h few =
-    record { fresh = h.fresh; opened = h.opened; ended = of_known (known f) h.named (h.ended few) }
+pub read_to_end : (before after : ShelfState) (limit : ℕ) (name read : List ℕ) (f : ℕ) → HasReadOf limit name read before after f → length read ≤ limit
+    → IsRead before after (ToItsEnd name) f
+read_to_end before after limit name read f h few =
+    record { fresh = h.fresh; opened = h.opened; ended = of_known (after.opened f) h.named (h.ended few) }
   where
     of_known : (opened : Option Opened) → IfSome opened (λ file. file.name ≡ name)
-        → IfSome opened (λ file. file.unread ≡ []) → IsReadTo files (ToItsEnd name) opened
+        → IfSome opened (λ file. file.unread ≡ []) → IsReadTo before.files (ToItsEnd name) opened
     of_known None named ended = tt
     of_known (Some file) named ended = (named, ended)
 
 -- and any other exactly one byte past the limit
-pub read_to_limit : (files : Option (List ShelfFile)) (limit : ℕ) (was is_open : ℕ → Type 0) (known : ℕ → Option Opened)
-    (name read : List ℕ) (f : ℕ) → HasRead limit files was is_open known name read f
-    → IsRead files was is_open known (ToItsLimit limit name) f
-read_to_limit files limit was is_open known name read f h =
-    record { fresh = h.fresh; opened = h.opened; ended = of_known (known f) h.named h.rest }
+pub read_to_limit : (before after : ShelfState) (limit : ℕ) (name read : List ℕ) (f : ℕ) → HasReadOf limit name read before after f
+    → IsRead before after (ToItsLimit limit name) f
+read_to_limit before after limit name read f h =
+    record { fresh = h.fresh; opened = h.opened; ended = of_known (after.opened f) h.named h.rest }
   where
     of_known : (opened : Option Opened) → IfSome opened (λ file. file.name ≡ name)
-        → IfSome files (λ fs. IfSome (find_file fs name) (λ bytes. IfSome opened (λ file. file.unread ≡ drop (limit + 1) bytes)))
-        → IsReadTo files (ToItsLimit limit name) opened
+        → IfSome before.files (λ fs. IfSome (find_file fs name) (λ bytes. IfSome opened (λ file. file.unread ≡ drop (limit + 1) bytes)))
+        → IsReadTo before.files (ToItsLimit limit name) opened
     of_known None named rest = tt
     of_known (Some file) named rest = (named, rest)
 

@@ -1,5 +1,7 @@
 -- What a call comes to, from what was read of its files; that it comes to one status.
-use Rattle.sdd_shell.proofs.All.{BadCatalogue, BadWorkload, BlamesCatalogue, BlamesWorkload, CatFault, Catalogue, Done, Ending, Err, Explains, FaultyCatalogue, FaultyWorkload, FilesRead, IsRead, IsRefusal, IsSome, KeepsOpen, Limit, List, MatchOption, MatchResult, NoForm, NoMemory, None, Ok, OnOk, Opened, Option, OverCatalogue, OverWorkload, PastLimit, Prints, ReadFault, Result, ShelfFile, Some, Status, TellsOfRun, ToItsEnd, ToItsLimit, Usage, Verdict, WorkFault, Workload, [], ap, catalogue_in, catalogue_named, find_file, inl, inr, option_map, refl, status_of, subst, sym, workload, ℕ, ◌∙◌, ◌∷◌, ◌≡◌, ◌⊎◌}
+use Rattle.sdd_shell.proofs.All.{BadCatalogue, BadWorkload, BlamesCatalogue, BlamesWorkload, Catalogue, Done, Err, Explains, FaultyCatalogue, FaultyWorkload, HasFiles, IsRefusal, IsSome, Limit, List, MakesNoRun, NoForm, NoMemory, None, Ok, Option, OverCatalogue, OverWorkload, PastLimit, Prints, ReadFault, Request, Result, ShelfFile, Some, Status, TellsOfFile, Usage, Verdict, WorkFault, Workload, about_catalogue, about_report, about_workload, ap, catalogue_in, catalogue_named, find_file, inl, inr, option_map, refl, status_of, subst, sym, workload, workload_named, ℕ, ◌∙◌, ◌≡◌, ◌⊎◌}
+use Rattle.sdd_shell.specs.OverCatalogue.{faulty_catalogue, printed}
+use Rattle.sdd_shell.specs.OverWorkload as work
 
 -- a status tells what follows from what it tells
 pub explains_more : (s : Status) (P Q : Verdict → Type 0) → ((v : Verdict) → P v → Q v) → Explains s P → Explains s Q
@@ -9,60 +11,156 @@ explains_more (BadWorkload f) P Q more e = more (FaultyWorkload f) e
 explains_more Limit P Q more e = more PastLimit e
 explains_more _ P Q more e = e
 
--- what is read of the catalogue's file is what the command comes to
+-- the fault of a catalogue is what a call over it comes to
 
-abbrev Over : Option (Result Catalogue CatFault) → (Catalogue → Verdict → Type 0) → Verdict → Type 0
-Over reading GoesOn verdict = MatchOption reading ⊥ (λ r. MatchResult r (λ cat. GoesOn cat verdict) (λ fault. verdict ≡ FaultyCatalogue fault))
+pub blamed : (fs : List ShelfFile) (name : List ℕ) (T : Catalogue → List ℕ → Type 0) (v : Verdict)
+    → BlamesCatalogue (catalogue_named fs name) v → OverCatalogue fs name T v
+blamed fs name T (FaultyCatalogue f) e = faulty_catalogue f e
+blamed fs name T _ e = absurd e
 
-blamed_at : (reading : Option (Result Catalogue CatFault)) (G : Catalogue → Verdict → Type 0) (v : Verdict) → BlamesCatalogue reading v → Over reading G v
-blamed_at reading G (FaultyCatalogue f) e = subst (λ r. Over r G (FaultyCatalogue f)) (sym e) refl
-blamed_at reading G _ e = absurd e
+module _ (fs : List ShelfFile) (c w : List ℕ) (T : Catalogue → Workload → List ℕ → Type 0) (L : Catalogue → Workload → Type 0) where
+  pub blamed_first : (v : Verdict) → BlamesCatalogue (catalogue_named fs c) v → OverWorkload fs c w T L v
+  blamed_first (FaultyCatalogue f) e = work.faulty_catalogue f e
+  blamed_first _ e = absurd e
 
-pub blamed : (fs : List ShelfFile) (name : List ℕ) (G : Catalogue → Verdict → Type 0) (v : Verdict)
-    → BlamesCatalogue (catalogue_named fs name) v → OverCatalogue fs name G v
-blamed fs name G v e = blamed_at (catalogue_named fs name) G v e
+  -- and that of a workload, over a sound catalogue
+  pub blamed_second : (cat : Catalogue) (v : Verdict) → catalogue_named fs c ≡ Some (Ok cat) → BlamesWorkload (workload_named fs cat w) v
+      → OverWorkload fs c w T L v
+  blamed_second cat (FaultyWorkload f) sound e = work.faulty_workload cat f sound e
+  blamed_second cat _ sound e = absurd e
 
-pub goes_on : (fs : List ShelfFile) (name : List ℕ) (G : Catalogue → Verdict → Type 0) (cat : Catalogue)
-    (v : Verdict) → catalogue_named fs name ≡ Some (Ok cat) → G cat v → OverCatalogue fs name G v
-goes_on fs name G cat v e g = subst (λ r. Over r G v) (sym e) g
+-- a reading gives one thing
 
-pub over_at : (reading : Option (Result Catalogue CatFault)) (G : Catalogue → Verdict → Type 0)
-    (cat : Catalogue) (v : Verdict) → Over reading G v → reading ≡ Some (Ok cat) → G cat v
-over_at reading G cat v over e = subst (λ r. Over r G v) e over
+one_fault : {A F : Type 0} (r : Option (Result A F)) (f g : F) → r ≡ Some (Err f) → r ≡ Some (Err g) → f ≡ g
+one_fault r f g p q = cc
 
--- and what is read of the workload's
+one_sound : {A F : Type 0} (r : Option (Result A F)) (a b : A) → r ≡ Some (Ok a) → r ≡ Some (Ok b) → a ≡ b
+one_sound r a b p q = cc
 
-abbrev pub OverWork : Option (Result Workload WorkFault) → (Workload → Verdict → Type 0) → Verdict → Type 0
-OverWork reading GoesOn verdict = MatchOption reading ⊥ (λ r. MatchResult r (λ work. GoesOn work verdict) (λ fault. verdict ≡ FaultyWorkload fault))
+not_both : {A F : Type 0} (r : Option (Result A F)) (a : A) (f : F) → r ≡ Some (Ok a) → r ≡ Some (Err f) → ⊥
+not_both r a f p q = absurd cc
 
-pub blamed_work : (reading : Option (Result Workload WorkFault)) (G : Workload → Verdict → Type 0) (v : Verdict) → BlamesWorkload reading v → OverWork reading G v
-blamed_work reading G (FaultyWorkload f) e = subst (λ r. OverWork r G (FaultyWorkload f)) (sym e) refl
-blamed_work reading G _ e = absurd e
+is_there : {A : Type 0} (give : List ℕ → A) (file : Option (List ℕ)) (a : A) → option_map give file ≡ Some a → IsSome file
+is_there give None a e = absurd cc
+is_there give (Some bytes) a e = refl
 
--- a call comes to one status: no run that is reported is ended by the limit
-pub one_of_run : (IsSuch : List ℕ → Type 0) (PastIt : Type 0) → ((text : List ℕ) → IsSuch text → PastIt → ⊥) → (v w : Verdict)
-    → TellsOfRun IsSuch PastIt v → TellsOfRun IsSuch PastIt w → status_of v ≡ status_of w
-one_of_run S E apart (Prints a) (Prints b) p q = refl
-one_of_run S E apart (Prints a) PastLimit p q = absurd (apart a p q)
-one_of_run S E apart PastLimit (Prints b) p q = absurd (apart b q p)
-one_of_run S E apart PastLimit PastLimit p q = refl
-one_of_run S E apart NoForm w p q = absurd p
-one_of_run S E apart (FaultyCatalogue f) w p q = absurd p
-one_of_run S E apart (FaultyWorkload f) w p q = absurd p
-one_of_run S E apart _ _ p q = absurd q
+-- What is proved of a request: it comes to one status, and where it comes to something its files are there.
+pub record IsDecided (request : Request) : Type 0 where
+  pub one : (fs : List ShelfFile) (v w : Verdict) → request.comes_to fs v → request.comes_to fs w → status_of v ≡ status_of w
+  pub there : (fs : List ShelfFile) (v : Verdict) → request.comes_to fs v → request.has_files fs
 
-pub one_over_work : (reading : Option (Result Workload WorkFault)) (G : Workload → Verdict → Type 0)
-    (v w : Verdict) → ((work : Workload) → G work v → G work w → status_of v ≡ status_of w)
-    → OverWork reading G v → OverWork reading G w → status_of v ≡ status_of w
-one_over_work None G v w one p q = absurd p
-one_over_work (Some (Ok work)) G v w one p q = one work p q
-one_over_work (Some (Err f)) G v w one p q = ap status_of (p ∙ sym q)
+-- one for a text about a catalogue
 
-pub one_over : (reading : Option (Result Catalogue CatFault)) (G : Catalogue → Verdict → Type 0) (v w : Verdict)
-    → ((cat : Catalogue) → G cat v → G cat w → status_of v ≡ status_of w) → Over reading G v → Over reading G w → status_of v ≡ status_of w
-one_over None G v w one p q = absurd p
-one_over (Some (Ok cat)) G v w one p q = one cat p q
-one_over (Some (Err f)) G v w one p q = ap status_of (p ∙ sym q)
+module _ (fs : List ShelfFile) (name : List ℕ) (T : Catalogue → List ℕ → Type 0) where
+  one_catalogue : (v w : Verdict) → OverCatalogue fs name T v → OverCatalogue fs name T w → status_of v ≡ status_of w
+  one_catalogue _ _ (faulty_catalogue f e) (faulty_catalogue g h) = ap (λ x. BadCatalogue x) (one_fault (catalogue_named fs name) f g e h)
+  one_catalogue _ _ (faulty_catalogue f e) (printed cat text h p) = absurd (not_both (catalogue_named fs name) cat f h e)
+  one_catalogue _ _ (printed cat text e p) (faulty_catalogue f h) = absurd (not_both (catalogue_named fs name) cat f e h)
+  one_catalogue _ _ (printed cat text e p) (printed cat2 text2 h q) = refl
+
+  catalogue_there : (v : Verdict) → OverCatalogue fs name T v → IsSome (find_file fs name)
+  catalogue_there _ (faulty_catalogue f e) = is_there catalogue_in (find_file fs name) (Err f) e
+  catalogue_there _ (printed cat text e p) = is_there catalogue_in (find_file fs name) (Ok cat) e
+
+pub catalogue_decided : (name : List ℕ) (T : Catalogue → List ℕ → Type 0) → IsDecided (about_catalogue name T)
+catalogue_decided name T = record { one = λ fs v w p q. one_catalogue fs name T v w p q; there = λ fs v p. catalogue_there fs name T v p }
+
+-- and for one about a workload: no run of which a text tells is ended by the limit
+
+module _ (fs : List ShelfFile) (c w : List ℕ) (T : Catalogue → Workload → List ℕ → Type 0) (L : Catalogue → Workload → Type 0) where
+  first_there : (v : Verdict) → OverWorkload fs c w T L v → IsSome (find_file fs c)
+  first_there _ (work.faulty_catalogue f e) = is_there catalogue_in (find_file fs c) (Err f) e
+  first_there _ (work.faulty_workload cat f e h) = is_there catalogue_in (find_file fs c) (Ok cat) e
+  first_there _ (work.printed cat k text e h p) = is_there catalogue_in (find_file fs c) (Ok cat) e
+  first_there _ (work.past_limit cat k e h p) = is_there catalogue_in (find_file fs c) (Ok cat) e
+
+  read_there : (cat says : Catalogue) (r : Result Workload WorkFault) → catalogue_named fs c ≡ Some (Ok cat) → catalogue_named fs c ≡ Some (Ok says)
+      → workload_named fs cat w ≡ Some r → IsSome (find_file fs w)
+  read_there cat says r e says_is h = is_there (workload cat) (find_file fs w) r h
+
+  second_there : (says : Catalogue) (v : Verdict) → catalogue_named fs c ≡ Some (Ok says) → OverWorkload fs c w T L v → IsSome (find_file fs w)
+  second_there says _ is (work.faulty_catalogue f e) = absurd (not_both (catalogue_named fs c) says f is e)
+  second_there says _ is (work.faulty_workload cat f e h) = read_there cat says (Err f) e is h
+  second_there says _ is (work.printed cat k text e h p) = read_there cat says (Ok k) e is h
+  second_there says _ is (work.past_limit cat k e h p) = read_there cat says (Ok k) e is h
+
+  workload_there : (v : Verdict) → OverWorkload fs c w T L v → HasFiles fs c w
+  workload_there v p = (first_there v p, λ says is. second_there says v is p)
+
+  -- what is known of the second file, for the one catalogue
+  same_work : (cat other : Catalogue) → catalogue_named fs c ≡ Some (Ok cat) → catalogue_named fs c ≡ Some (Ok other)
+      → workload_named fs cat w ≡ workload_named fs other w
+  same_work cat other e h = ap (λ x. workload_named fs x w) (one_sound (catalogue_named fs c) cat other e h)
+
+  both_faulty : (cat other : Catalogue) (f g : WorkFault) → catalogue_named fs c ≡ Some (Ok cat) → catalogue_named fs c ≡ Some (Ok other)
+      → workload_named fs cat w ≡ Some (Err f) → workload_named fs other w ≡ Some (Err g) → f ≡ g
+  both_faulty cat other f g e h p q = one_fault (workload_named fs other w) f g (sym (same_work cat other e h) ∙ p) q
+
+  not_faulty : (cat other : Catalogue) (k : Workload) (f : WorkFault) → catalogue_named fs c ≡ Some (Ok cat) → catalogue_named fs c ≡ Some (Ok other)
+      → workload_named fs cat w ≡ Some (Ok k) → workload_named fs other w ≡ Some (Err f) → ⊥
+  not_faulty cat other k f e h p q = not_both (workload_named fs other w) k f (sym (same_work cat other e h) ∙ p) q
+
+  both_sound : (cat other : Catalogue) (k l : Workload) → catalogue_named fs c ≡ Some (Ok cat) → catalogue_named fs c ≡ Some (Ok other)
+      → workload_named fs cat w ≡ Some (Ok k) → workload_named fs other w ≡ Some (Ok l) → k ≡ l
+  both_sound cat other k l e h p q = one_sound (workload_named fs other w) k l (sym (same_work cat other e h) ∙ p) q
+
+  module _ (apart : (cat : Catalogue) (k : Workload) (text : List ℕ) → T cat k text → L cat k → ⊥) where
+    not_past : (cat other : Catalogue) (k l : Workload) (text : List ℕ) → catalogue_named fs c ≡ Some (Ok cat) → catalogue_named fs c ≡ Some (Ok other)
+        → workload_named fs cat w ≡ Some (Ok k) → workload_named fs other w ≡ Some (Ok l) → T cat k text → L other l → ⊥
+    not_past cat other k l text e h p q told past =
+        let cats = one_sound (catalogue_named fs c) cat other e h in
+        apart other l text (subst (λ x. T other x text) (both_sound cat other k l e h p q) (subst (λ x. T x k text) cats told)) past
+
+    one_workload : (v u : Verdict) → OverWorkload fs c w T L v → OverWorkload fs c w T L u → status_of v ≡ status_of u
+    one_workload _ _ (work.faulty_catalogue f e) (work.faulty_catalogue g h) = ap (λ x. BadCatalogue x) (one_fault (catalogue_named fs c) f g e h)
+    one_workload _ _ (work.faulty_catalogue f e) (work.faulty_workload cat g h q) = absurd (not_both (catalogue_named fs c) cat f h e)
+    one_workload _ _ (work.faulty_catalogue f e) (work.printed cat k text h q t) = absurd (not_both (catalogue_named fs c) cat f h e)
+    one_workload _ _ (work.faulty_catalogue f e) (work.past_limit cat k h q t) = absurd (not_both (catalogue_named fs c) cat f h e)
+    one_workload _ _ (work.faulty_workload cat g h q) (work.faulty_catalogue f e) = absurd (not_both (catalogue_named fs c) cat f h e)
+    one_workload _ _ (work.faulty_workload cat f e p) (work.faulty_workload other g h q) = ap (λ x. BadWorkload x) (both_faulty cat other f g e h p q)
+    one_workload _ _ (work.faulty_workload cat f e p) (work.printed other k text h q t) = absurd (not_faulty other cat k f h e q p)
+    one_workload _ _ (work.faulty_workload cat f e p) (work.past_limit other k h q t) = absurd (not_faulty other cat k f h e q p)
+    one_workload _ _ (work.printed cat k text h q t) (work.faulty_catalogue f e) = absurd (not_both (catalogue_named fs c) cat f h e)
+    one_workload _ _ (work.printed cat k text e p t) (work.faulty_workload other f h q) = absurd (not_faulty cat other k f e h p q)
+    one_workload _ _ (work.printed cat k text e p t) (work.printed other l text2 h q u) = refl
+    one_workload _ _ (work.printed cat k text e p t) (work.past_limit other l h q u) = absurd (not_past cat other k l text e h p q t u)
+    one_workload _ _ (work.past_limit cat k h q t) (work.faulty_catalogue f e) = absurd (not_both (catalogue_named fs c) cat f h e)
+    one_workload _ _ (work.past_limit cat k e p t) (work.faulty_workload other f h q) = absurd (not_faulty cat other k f e h p q)
+    one_workload _ _ (work.past_limit cat k e p t) (work.printed other l text h q u) = absurd (not_past other cat l k text h e q p u t)
+    one_workload _ _ (work.past_limit cat k e p t) (work.past_limit other l h q u) = refl
+
+pub workload_decided : (c w : List ℕ) (T : Catalogue → Workload → List ℕ → Type 0) (L : Catalogue → Workload → Type 0)
+    → ((cat : Catalogue) (k : Workload) (text : List ℕ) → T cat k text → L cat k → ⊥) → IsDecided (about_workload c w T L)
+workload_decided c w T L apart = record {
+  one = λ fs v u p q. one_workload fs c w T L apart v u p q;
+  there = λ fs v p. workload_there fs c w T L v p;
+}
+
+-- and for one about a report
+
+file_there : (file : Option (List ℕ)) (bytes : List ℕ) → file ≡ Some bytes → IsSome file
+file_there file bytes e = rw e refl
+
+module _ (fs : List ShelfFile) (c w r : List ℕ) (said_of : Catalogue → Workload → List ℕ → List ℕ) where
+  abbrev Told : Verdict → Type 0
+  Told v = OverWorkload fs c w (λ cat k. TellsOfFile fs r (said_of cat k)) MakesNoRun v
+
+  third_there : (says : Catalogue) (asks : Workload) (v : Verdict) → catalogue_named fs c ≡ Some (Ok says) → workload_named fs says w ≡ Some (Ok asks)
+      → Told v → IsSome (find_file fs r)
+  third_there says asks _ is reads (work.faulty_catalogue f e) = absurd (not_both (catalogue_named fs c) says f is e)
+  third_there says asks _ is reads (work.faulty_workload cat f e h) =
+      absurd (not_faulty fs c w (λ cat k. TellsOfFile fs r (said_of cat k)) MakesNoRun says cat asks f is e reads h)
+  third_there says asks _ is reads (work.printed cat k text e h p) = file_there (find_file fs r) p.bytes p.there
+  third_there says asks _ is reads (work.past_limit cat k e h p) = absurd p
+
+pub report_decided : (limit : ℕ) (c w r : List ℕ) (said_of : Catalogue → Workload → List ℕ → List ℕ) → IsDecided (about_report limit c w r said_of)
+report_decided limit c w r said_of = record {
+  one = λ fs v u p q. one_workload fs c w (λ cat k. TellsOfFile fs r (said_of cat k)) MakesNoRun (λ cat k text t no. no) v u p q;
+  there = λ fs v p. (
+    workload_there fs c w (λ cat k. TellsOfFile fs r (said_of cat k)) MakesNoRun v p,
+    λ says asks is reads. third_there fs c w r said_of says asks v is reads p,
+  );
+}
 
 -- a call that printed no text reported what it comes to, unless the shelf failed or memory ran out
 pub by_status : (s : Status) (P : Verdict → Type 0) (v : Verdict) → ((w : Verdict) → P w → status_of w ≡ status_of v) → Explains s P → (s ≡ ReadFault → ⊥)
@@ -78,75 +176,3 @@ by_status _ P v one e read = absurd e
 pub done_refuses : (v : Verdict) → IsRefusal v → Done ≡ status_of v → ⊥
 done_refuses (Prints text) r e = r
 done_refuses _ r e = absurd cc
-
--- the files of a call that comes to something are there
-
-pub file_there : {A : Type 0} (give : List ℕ → A) (G : A → Type 0) (file : Option (List ℕ)) → MatchOption (option_map give file) ⊥ G → IsSome file
-file_there give G None p = absurd p
-file_there give G (Some bytes) p = refl
-
-pub over_there : (fs : List ShelfFile) (name : List ℕ) (G : Catalogue → Verdict → Type 0) (v : Verdict) → OverCatalogue fs name G v → IsSome (find_file fs name)
-over_there fs name G v p = file_there catalogue_in (λ r. MatchResult r (λ cat. G cat v) (λ fault. v ≡ FaultyCatalogue fault)) (find_file fs name) p
-
-pub over_work_there : (fs : List ShelfFile) (cat : Catalogue) (name : List ℕ) (G : Workload → Verdict → Type 0) (v : Verdict)
-    → OverWorkload fs cat name G v → IsSome (find_file fs name)
-over_work_there fs cat name G v p =
-    file_there (workload cat) (λ r. MatchResult r (λ work. G work v) (λ fault. v ≡ FaultyWorkload fault)) (find_file fs name) p
-
--- what it comes to over a sound workload
-pub over_work_at : (reading : Option (Result Workload WorkFault)) (G : Workload → Verdict → Type 0) (work : Workload) (v : Verdict) → OverWork reading G v
-    → reading ≡ Some (Ok work) → G work v
-over_work_at reading G work v over e = subst (λ r. OverWork r G v) e over
-
--- two files that were opened one after the other, the first of which was read to its end
-pub two_ended : (files files2 : Option (List ShelfFile)) (was between now : ℕ → Type 0)
-    (known_was known_between known_now : ℕ → Option Opened) (a : List ℕ) (ending : Ending) (f g : ℕ) → files2 ≡ files
-    → IsRead files was between known_between (ToItsEnd a) f → KeepsOpen (λ _. Unit {0}) was between known_was known_between
-    → IsRead files2 between now known_now ending g → KeepsOpen (λ _. Unit {0}) between now known_between known_now
-    → FilesRead files was now known_now (ToItsEnd a ∷ ending ∷ [])
-two_ended files files2 was between now known_was known_between known_now a ending f g same first keep1 read keep2 =
-    let later = keep2 f tt first.opened in
-    let second = subst (λ fs. IsRead fs between now known_now ending g) same read in
-    record {
-      files = f ∷ g ∷ [];
-      read = (
-        record { fresh = first.fresh; opened = later.0; ended = rw later.1 first.ended },
-        ((λ e. second.fresh (subst between e first.opened)), tt),
-        (record { fresh = λ was_g. second.fresh (keep1 g tt was_g).0; opened = second.opened; ended = second.ended }, tt, tt),
-      );
-    }
-
--- and a third
-pub three_ended : (files files2 files3 : Option (List ShelfFile)) (was second third now : ℕ → Type 0)
-    (known_was known2 known3 known : ℕ → Option Opened) (limit : ℕ) (a_name b_name name : List ℕ) (f g h : ℕ) → files3 ≡ files
-    → IsRead files was second known2 (ToItsEnd a_name) f → KeepsOpen (λ _. Unit {0}) was second known_was known2
-    → IsRead files2 second third known3 (ToItsEnd b_name) g → KeepsOpen (λ _. Unit {0}) second third known2 known3
-    → IsRead files3 third now known (ToItsLimit limit name) h → KeepsOpen (λ _. Unit {0}) third now known3 known
-    → FilesRead files was now known (ToItsEnd a_name ∷ ToItsEnd b_name ∷ ToItsLimit limit name ∷ [])
-three_ended files files2 files3 was second third now known_was known2 known3 known limit a_name b_name name f g h same a keep1 b keep2 c keep3 =
-    let a2 = keep2 f tt a.opened in
-    let a3 = keep3 f tt a2.0 in
-    let b3 = keep3 g tt b.opened in
-    let c' = subst (λ fs. IsRead fs third now known (ToItsLimit limit name) h) same c in
-    record {
-      files = f ∷ g ∷ h ∷ [];
-      read = (
-        record { fresh = a.fresh; opened = a3.0; ended = rw (a3.1 ∙ a2.1) a.ended },
-        ((λ e. b.fresh (subst second e a.opened)), ((λ e. c.fresh (subst third e a2.0)), tt)),
-        (
-          record { fresh = λ was_g. b.fresh (keep1 g tt was_g).0; opened = b3.0; ended = rw b3.1 b.ended },
-          ((λ e. c.fresh (subst third e b.opened)), tt),
-          (record { fresh = λ was_h. c'.fresh (keep2 h tt (keep1 h tt was_h).0).0; opened = c'.opened; ended = c'.ended }, tt, tt),
-        ),
-      );
-    }
-
-pub one_ended : (files : Option (List ShelfFile)) (was now : ℕ → Type 0) (known : ℕ → Option Opened) (ending : Ending)
-    (f : ℕ) → IsRead files was now known ending f → FilesRead files was now known (ending ∷ [])
-one_ended files was now known ending f first = record { files = f ∷ []; read = (first, tt, tt) }
-
--- of a command that reads no file
-pub none_read : {T : Type 0} (r : Result T Status) (files : Option (List ShelfFile)) (was now : ℕ → Type 0)
-    (known : ℕ → Option Opened) → OnOk r (FilesRead files was now known [])
-none_read (Ok v) files was now known = record { files = []; read = tt }
-none_read (Err s) files was now known = tt

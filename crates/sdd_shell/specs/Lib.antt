@@ -1,7 +1,11 @@
+pub mod Accepting
 pub mod Calls
 pub mod Endings
 pub mod HostFiles
 pub mod NamedFiles
+pub mod OverCatalogue
+pub mod OverWorkload
+pub mod Requests
 pub mod States
 pub mod Status
 pub mod Taking

@@ -2,6 +2,7 @@
 use Rattle.std.specs.Prelude.{◌≡◌, ◌≤◌, ℕ, List, Option, Result, MatchResult, length, take}
 use Rattle.sdd_lang.specs.base.declared.files.ShelfFile.{ShelfFile}
 use Rattle.sdd_lang.specs.base.Outside.{Opened, Rose, with_end}
+use Rattle.sdd_shell.specs.Taking.{TakesOrFaults}
 use Rattle.sdd_shell.specs.declared.status.Status.{Status}
 use Rattle.sdd_shell.specs.declared.status.Status.TheVariants.{Done, WriteFault}
 
@@ -30,6 +31,10 @@ pub record SinkState : Type 1 where
 
 abbrev pub sink_by : {S : Type 0} → (S → Option (List ℕ)) → (S → ℕ) → (S → ℕ → Type 0) → S → SinkState
 sink_by taken faults sure sink = record { taken = taken sink; faults = faults sink; sure = sure sink }
+
+-- all of the text is taken, or a first part of it where the count of faults rose
+abbrev pub Takes : List ℕ → SinkState → SinkState → Type 0
+Takes text before after = TakesOrFaults before.sure before.taken after.taken before.faults after.faults text
 
 -- The text is written whole, or a first part of it where the sink failed.
 abbrev pub IsWritten : List ℕ → SinkState → SinkState → Status → Type 0

@@ -1,5 +1,5 @@
 -- What a call comes to, and the status that says so.
-use Rattle.std.specs.Prelude.{ℕ, List, Result, MatchResult}
+use Rattle.std.specs.Prelude.{ℕ, List, Result, Ok, Err, MatchResult}
 use Rattle.sdd_lang.specs.base.declared.reading.ReadError.{ReadError}
 use Rattle.sdd_lang.specs.base.declared.reading.ReadError.TheVariants as reads
 use Rattle.sdd_lang.specs.catalog.declared.fault.CatError.{CatError}
@@ -50,6 +50,13 @@ Explains statuses.WriteFault P = ⊥
 -- a text, or a status in its place, gives such a verdict
 abbrev pub Answers : {T : Type 0} → Result T Status → (T → List ℕ) → (Verdict → Type 0) → Type 0
 Answers result text P = MatchResult result (λ v. P (Prints (text v))) (λ status. Explains status P)
+
+-- such a text is made; or the limit ends the run of which it would tell; or memory runs out
+abbrev pub MakesText : (List ℕ → Type 0) → Type 0 → Result (List ℕ) Status → Type 0
+MakesText IsText EndsAtLimit (Ok text) = IsText text
+MakesText IsText EndsAtLimit (Err statuses.Limit) = EndsAtLimit
+MakesText IsText EndsAtLimit (Err statuses.NoMemory) = Unit {0}
+MakesText IsText EndsAtLimit (Err status) = ⊥
 
 -- a status that comes from reading and judging files
 abbrev pub ComesOfFiles : Status → Type 0

@@ -16,6 +16,7 @@ pub use Rattle.sdd_obligations.proofs.laws.Run.{replayed}
 pub use Rattle.sdd_obligations.proofs.laws.lang.Sets.{each_filtered as kept_hold}
 pub use Rattle.sdd_obligations.proofs.laws.serial_orders.InOrder.{each as at_each}
 pub use Rattle.sdd_obligations.proofs.laws.serial_orders.Members.{All-members as all_members}
+pub use Rattle.sdd_obligations.proofs.logs.AsLists.{next_mark_is}
 pub use Rattle.sdd_obligations.proofs.logs.NewMarks.{lawful_permitted, left_is, marked}
 pub use Rattle.sdd_obligations.proofs.net.Lists.{All-at}
 pub use Rattle.sdd_obligations.specs.All.{AllFewTicks, Answer, Apply, AreSubmittedOnce, Arrive, Call, Catalogue, Change, Class, Commit, Committed, Cond, Condition, Delete, Deliver, Does, Down, Effect, Entry, Eras, Event, Fragment, Hand, HasCommit, History, Input, Int, IsCommitted, IsFrom1To, IsLawful, IsOrderable, IsPermitted, IsSerial, IsSoundCatalogue, IsSubmitted, IsTable, KeepsStarts, Log, Lose, MAX_TXNS, Mark, Msg, Notes, Nothing, Pass, Put, Query, Rec, Redeclares, Reject, RelNo, Repeat, Reply, Resend, Round, Row, Settle, Site, Start, Stmt, Submit, Submitted, Tick, Ts, Txn, TxnNo, Up, Update, Wait, after_mark, all_links, calls_of, class_for, committed, contents, copy_at, database_of, effect, event_at, hand_due, history, in_flight, is_down, item_cmp, left, link, mark_due, mark_from, mark_of, marks, next, next_mark, nth_era, one_if, or_else, quiet, redeclares, redeclares_in, resends_now, round, run, site_due, submits_by, submits_in, tm_no, txn_no}

@@ -1,5 +1,5 @@
 -- In a complete log each transaction that its events submit is submitted.
-use Rattle.sdd_verified.proofs.All.{Bool, Does, Entry, Event, Hand, Input, IsLawful, IsSubmitted, List, Log, Mark, None, Notes, Option, Redeclares, Round, Settle, Site, Some, Submission, Submit, Submitted, TxnNo, [], ap, arith, eqb-true, false, from_event, hand_due, history, home_of, inl, inr, left, left_is, length, mark_due, mark_from, mark_of, marked, next, next_mark, nth_era, one_if, or_else, recorded_there, redeclares, refl, site_due, submits_by, submits_in, subst, sym, true, txn_no, ℕ, ◌++◌, ◌+◌, ◌==◌, ◌∙◌, ◌∷◌, ◌≡◌, ◌≤◌, ◌⊎◌}
+use Rattle.sdd_verified.proofs.All.{Bool, Does, Entry, Event, Hand, Input, IsLawful, IsSubmitted, List, Log, Mark, None, Notes, Option, Redeclares, Round, Settle, Site, Some, Submission, Submit, Submitted, TxnNo, [], ap, arith, eqb-true, false, from_event, hand_due, history, home_of, inl, inr, left, left_is, length, mark_due, mark_from, mark_of, marked, next, next_mark, next_mark_is, nth_era, one_if, or_else, recorded_there, redeclares, refl, site_due, submits_by, submits_in, subst, sym, true, txn_no, ℕ, ◌++◌, ◌+◌, ◌==◌, ◌∙◌, ◌∷◌, ◌≡◌, ◌≤◌, ◌⊎◌}
 use Rattle.sdd_obligations.specs.All.{txn_at}
 
 -- of what a complete log leaves no event has a mark
@@ -9,14 +9,14 @@ no_other a b h = grind arith
 
 pub record NoneIsDue (g : Input) (log : Log) : Type 0 where
   pub mark : mark_due g log ≡ None
-  pub next : next_mark g log ≡ None
+  pub next : mark_of g log (left g.events log) ≡ None
 
 pub none_due : (g : Input) (log : Log) → next g log ≡ None → NoneIsDue g log
 none_due g log h =
     let a = no_other (mark_due g log) _ h in
     let b = no_other (site_due g log) _ a.1 in
     let c = no_other (hand_due g log) (next_mark g log) b.1 in
-    record { mark = a.0; next = c.1 }
+    record { mark = a.0; next = sym (next_mark_is g log) ∙ c.1 }
 
 none_from : (g : Input) (log : Log) (q : Bool) (r ws : List Event) → mark_from g log q r ws ≡ None → from_event ws ≡ []
 none_from g log q r [] h = refl

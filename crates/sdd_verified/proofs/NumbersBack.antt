@@ -1,6 +1,6 @@
 -- Names that don't meet give back the transactions, so two reports on the same transactions that have one text tell of the
 -- same ones.
-use Rattle.sdd_verified.proofs.All.{AllByRecursion, AreNamed, Catalogue, Input, IsFrom1To, IsReportOn, IsSoundCatalogue, IsValid, List, Pending, Some, TellOfTheSame, Txn, TxnNo, Workload, [], all_by_member, ap, arith, bytes_eq, false, input_of, length, length-map, listed_submits, map, named_by_events, names_of, once, option_map_or, order_of, pending_names, pending_numbers, place_of_name, position, refl, repeats, report_of, same_Some, slice_get, slice_index_or as get_or, standing_at, standing_at_t, standing_at_u, subst, suc, sym, txn_name, txn_no, whole_in, whole_named, whole_sound, ℕ, ◌-◌, ◌<◌, ◌∙◌, ◌∷◌, ◌≡◌}
+use Rattle.sdd_verified.proofs.All.{AllByRecursion, AreNamed, Catalogue, Input, IsFrom1To, IsReportOn, IsSoundCatalogue, IsValid, List, Pending, Some, TellOfTheSame, Txn, TxnNo, Workload, [], all_by_member, ap, arith, bytes_eq, false, input_of, length, length-map, listed_submits, map, named_by_events, names_of, once, option_map_or, order_of, pending_names, pending_numbers, place_of_name, position, refl, repeats, report_of, same_Some, slice_get, slice_index_or as get_or, subst, suc, sym, txn_name, txn_no, whole_in, whole_named, whole_sound, ℕ, ◌-◌, ◌<◌, ◌∙◌, ◌∷◌, ◌≡◌}
 use Rattle.sdd_verified.proofs.OneText.{one_text}
 use Rattle.sdd_verified.proofs.PartsBack.{same_first}
 use Rattle.sdd_verified.proofs.Reported.{one_given}
@@ -72,7 +72,7 @@ pending_there cat work text valid r =
     let g : Input = input_of cat r.of_run.tables work in
     numbers_there work.txns (report_of g r.of_run.log).pending
     (all_by_place (λ (p : Pending). IsFrom1To (length work.txns) p.txn.0) (report_of g r.of_run.log).pending (λ j p there.
-    (let s = listed_submits (standing_at standing_at_u standing_at_t) g r.of_run.log j p there in
+    (let s = listed_submits g r.of_run.log j p there in
     named_by_events cat (length work.txns) p.txn.0 work.events valid.events
     (is_in_schedule g r.of_run.log r.of_run.log_is.lawful (once work.events valid.submitted) p.txn.0 s.0 s.1))))
 

@@ -39,9 +39,11 @@ pub use Rattle.sdd_obligations.proofs.invariants.Sites.{site_is, site_self}
 pub use Rattle.sdd_obligations.proofs.invariants.logs.attempt.Noting.{any_result as all_ok}
 pub use Rattle.sdd_obligations.proofs.invariants.logs.dm.ByClass.{filter_same}
 pub use Rattle.sdd_obligations.proofs.invariants.logs.dm.Shown.{head_shown, met_is, waits_shown}
+pub use Rattle.sdd_obligations.proofs.logs.AsLists.{left_is_ahead}
 pub use Rattle.sdd_obligations.proofs.logs.Completing.{complete_parts, one_more, redeclare_next, settled}
 pub use Rattle.sdd_obligations.proofs.logs.Delivering.{ack_same}
-pub use Rattle.sdd_obligations.proofs.logs.Grows.{grows, lawful_grows, mark_is_next, with_end}
+pub use Rattle.sdd_obligations.proofs.logs.Grows.{grows, lawful_grows, with_end}
+pub use Rattle.sdd_obligations.proofs.logs.NextMark.{mark_is_next}
 pub use Rattle.sdd_obligations.proofs.logs.Handing.{delivered_puts}
 pub use Rattle.sdd_obligations.proofs.logs.Links.{delivered_deliver, delivered_lose, delivered_repeat, delivered_resend}
 pub use Rattle.sdd_obligations.proofs.logs.Marking.{no_redeclare, none_by_mark, ticked_none}
@@ -77,7 +79,8 @@ pub use Rattle.sdd_obligations.specs.history.declared.record.Rec.TheVariants.{Su
 pub use Rattle.sdd_obligations.specs.invariants.Steps.{changes_at}
 pub use Rattle.sdd_obligations.specs.lang.Fits.{FitsTxn}
 pub use Rattle.sdd_obligations.specs.logs.Due.{home_of as site_of}
-pub use Rattle.sdd_obligations.specs.logs.Marks.{from_event}
+pub use Rattle.sdd_obligations.specs.logs.Left.{as_lists}
+pub use Rattle.sdd_obligations.specs.logs.Marks.{Ahead, BetweenRounds, InRound, ahead, from_event}
 pub use Rattle.sdd_obligations.specs.net.Links.{Way, numbered, put, unacked, with_message, without_at}
 pub use Rattle.sdd_obligations.specs.net.Sound.{IsOf, IsSoundWay}
 pub use Rattle.sdd_obligations.specs.pipe.Digest.{Digest, IsDigest, passed_with}
@@ -119,7 +122,7 @@ pub use Rattle.sdd_run.specs.world.declared.schedule.ClassList.{ClassList}
 pub use Rattle.sdd_run.specs.world.declared.sites.Sites.{Sites}
 pub use Rattle.sdd_run.specs.world.declared.world.World.{World}
 pub use Rattle.sdd_watch.specs.Awaiting.{behind, number_for, purpose_of, purposed, purposed_above, up_to, waiting_on}
-pub use Rattle.sdd_watch.specs.Happens.{applied_by, applied_in, arrived_by, arrived_of, changes_applied, changes_of, committed_by, committed_in, concerns, found_by, happened_at, have_moved, is_of_item, is_of_queue, is_reached, last_event, lost_by, place_in, place_of_first, report_row, round_at, round_in, rounds, row_by, row_left, rows_of, scheduled_at, something_if, states_of, taken, takes_part, unless_in_round, with_row}
+pub use Rattle.sdd_watch.specs.Happens.{applied_by, applied_in, arrived_by, arrived_of, changes_applied, changes_of, committed_by, committed_in, concerns, found_by, happened_at, have_moved, if_in_round, is_of_item, is_of_queue, is_reached, last_event, lost_by, place_in, place_of_first, report_row, round_at, round_in, rounds, row_by, row_left, rows_of, scheduled_at, something_if, states_of, taken, takes_part, with_row}
 pub use Rattle.sdd_watch.specs.Keeping.{IsLineInOrder, active_of, head_in, question_by, questions_in}
 pub use Rattle.sdd_watch.specs.Looking.{ArePipesSeen, AreSeen, advanced, all_waiting, messages_in, numbers_for, queue_in, queue_of, says, says_one, seen_with}
 pub use Rattle.sdd_watch.specs.Moments.{all_pipes, at_event, came, link_moment, moment_of, number_through, passed_to, pipe_moment, pipes_at_module, queue_moment, queues_at, queues_of, source, time_passed}

@@ -1,8 +1,9 @@
 -- An event is carried out and reported, over plain worlds.
-use Rattle.sdd_watch.proofs.All.{Entry, Event, Foreseen, Input, IsLawful, IsPossible, IsReported, IsTellable, IsToTell, IsTurn, List, Log, Mark, None, Redeclare, Redeclares, Represents, Round, Settle, Some, Teller, Tells, Turn, Watch, Watches, World, [], after_mark, ap, arith, change, foreseen_by, from_event, grows, lawful_grows, left, length, line, mark_of, marks, next, one_more, place_in, refl, rests_given, round_in, rounds, single, subst, suc, sym, tail_of, with_event, ℕ, ◌++◌, ◌∙◌, ◌∷◌, ◌≡◌}
+use Rattle.sdd_watch.proofs.All.{Entry, Event, Foreseen, Input, IsLawful, IsPossible, IsReported, IsTellable, IsToTell, IsTurn, List, Log, Mark, None, Redeclare, Redeclares, Represents, Round, Settle, Some, Teller, Tells, Turn, Watch, Watches, World, [], after_mark, ap, arith, change, foreseen_by, from_event, grows, lawful_grows, left, length, line, mark_of, marks, next, one_more, refl, rests_given, rounds, single, subst, suc, sym, tail_of, with_event, ℕ, ◌++◌, ◌∙◌, ◌∷◌, ◌≡◌}
 use Rattle.sdd_watch.proofs.EachEvent.{IsMarkedBetween, event_of, goes_to_end, is_between, last_is, one_more_mark}
-use Rattle.sdd_watch.proofs.GivenMore.{first_from, next_mark_is, one_longer}
+use Rattle.sdd_watch.proofs.GivenMore.{first_from, marked_next, one_longer}
 use Rattle.sdd_watch.proofs.InRounds.{no_mark_more, none_in_round}
+use Rattle.sdd_watch.proofs.PlacesListed.{place_left, round_at_listed, round_left, scheduled_listed}
 use Rattle.sdd_watch.proofs.TextSoFar.{text_given, text_more, text_round}
 
 -- what is kept stays where a round begins, and where an event more is given
@@ -61,7 +62,7 @@ marked_to_end g old new x e l k h n none done =
     record { entry = x; event_is = h; more = p.0; parts = p.1; lawful = k; marks_are = ap marks p.1 ∙ same ∙ one_more_mark x e old h }
 
 last_place : (g : Input) (log : Log) (x : Entry) (e : Event) (s : List Event × List Event) (total : ℕ) → event_of x ≡ Some e
-    → mark_of g log s ≡ Some x → after_mark s ≡ ([], []) → s.1 ≡ [] → place_in total s ≡ total
+    → mark_of g log s ≡ Some x → after_mark s ≡ ([], []) → s.1 ≡ [] → place_left total s ≡ total
 last_place g log x e (ws, y ∷ r) total h n none over = cc
 last_place g log x e (ws, []) total h n none over =
     let p = first_from g log _ _ ws x e h n in
@@ -76,8 +77,9 @@ pub turn_at_end : (g : Input) (old new : Log) (x : Entry) (e : Event) (place : �
 turn_at_end g old new x e place turn is h n none over b event scheduled round = record {
   event = event ∙ sym (last_is g old new e b);
   scheduled =
-      scheduled ∙ is ∙ sym (last_place g old x e (left g.events old) (length g.events) h (next_mark_is g old x e h n) none over);
-  round = round ∙ sym (ap (round_in (rounds g.events old)) over);
+      scheduled ∙ is ∙ sym (scheduled_listed g old
+      ∙ last_place g old x e (left g.events old) (length g.events) h (marked_next g old x e h n) none over);
+  round = round ∙ sym (round_at_listed g old ∙ ap (round_left (rounds g.events old)) over);
 }
 
 -- an event of the schedule that is no settle and no redeclare

@@ -1,13 +1,15 @@
 -- One event more is given: the places in the schedule stay, and so does what is reported of the log.
-use Rattle.sdd_watch.proofs.All.{Bool, Entry, Event, Input, IsLawful, List, Log, Mark, None, Redeclare, Redeclares, Round, Settle, Some, [], all_links, ap, arith, at_event, calls_of, change, difference, false, from_event, greatest_bound, grows, happened_at, left, length, line, line_of, mark_from, mark_is_next, mark_of, marks, moment_of, next, next_mark, place_in, place_of_first, quiet, refl, round, round_at, round_in, rounds, scheduled_at, suc, true, unless_in_round, with_end, with_event, ℕ, ◌++◌, ◌-◌, ◌∙◌, ◌∷◌, ◌≡◌, ◌≤◌}
+use Rattle.sdd_watch.proofs.All.{Bool, Entry, Event, Input, IsLawful, List, Log, Mark, None, Redeclare, Redeclares, Round, Settle, Some, [], all_links, ap, arith, at_event, calls_of, change, difference, false, from_event, greatest_bound, grows, happened_at, left, length, line, line_of, mark_from, mark_is_next, mark_of, marks, moment_of, next, place_of_first, quiet, refl, round, round_at, rounds, scheduled_at, suc, sym, true, with_end, with_event, ℕ, ◌++◌, ◌-◌, ◌∙◌, ◌∷◌, ◌≡◌, ◌≤◌}
+use Rattle.sdd_watch.proofs.PlacesListed.{place_left, round_at_listed, round_left, rounds_marked, scheduled_listed, unless_over}
 use Rattle.sdd_watch.proofs.EachEvent.{MarksNext, event_of, lawful_at, marks_next}
 
 -- a mark that is next is that of the first event that is left
 
-pub next_mark_is : (g : Input) (log : Log) (x : Entry) (e : Event) → event_of x ≡ Some e → next g log ≡ Some x → next_mark g log ≡ Some x
-next_mark_is g log (Mark f) e h n = mark_is_next g log (Mark f) refl n
-next_mark_is g log (Redeclares t) e h n = mark_is_next g log (Redeclares t) refl n
-next_mark_is g log _ e h n = cc
+pub marked_next : (g : Input) (log : Log) (x : Entry) (e : Event) → event_of x ≡ Some e → next g log ≡ Some x
+    → mark_of g log (left g.events log) ≡ Some x
+marked_next g log (Mark f) e h n = mark_is_next g log (Mark f) refl n
+marked_next g log (Redeclares t) e h n = mark_is_next g log (Redeclares t) refl n
+marked_next g log _ e h n = cc
 
 same_mark : (d e : Event) (x : Entry) → event_of x ≡ Some e → Some (Mark d) ≡ Some x → d ≡ e
 same_mark d e x h k =
@@ -50,7 +52,7 @@ same_place : (total more : ℕ) (events longer : List Event) → more ≡ suc to
 same_place total more events longer e h = omega (arith, e, h)
 
 place_more : (g : Input) (f : Event) (log : Log) (x : Entry) (e : Event) (s : List Event × List Event) → event_of x ≡ Some e → mark_of g log s ≡ Some x
-    → place_in (length (g.events ++ f ∷ [])) (with_end f s) ≡ place_in (length g.events) s
+    → place_left (length (g.events ++ f ∷ [])) (with_end f s) ≡ place_left (length g.events) s
 place_more g f log x e (ws, []) h k =
     let p = first_from g log (quiet (all_links g) (calls_of log)) (round (all_links g) (calls_of log)) ws x e h k in
     same_place (length g.events) (length (g.events ++ f ∷ [])) (from_event ws) (from_event (ws ++ f ∷ [])) (one_longer g.events f) (from_longer ws f e p.0 p.1)
@@ -59,18 +61,26 @@ place_more g f log x e (ws, y ∷ r) h k =
 
 pub scheduled_more : (g : Input) (f : Event) (log : Log) → IsLawful g log → MarksNext g log → scheduled_at (with_event g f) log ≡ scheduled_at g log
 scheduled_more g f log l n =
-    ap (place_in (length (g.events ++ f ∷ []))) (grows g f log l)
-    ∙ place_more g f log n.entry n.event (left g.events log) n.event_is (next_mark_is g log n.entry n.event n.event_is n.next_is)
+    scheduled_listed (with_event g f) log
+    ∙ ap (place_left (length (g.events ++ f ∷ []))) (grows g f log l)
+    ∙ place_more g f log n.entry n.event (left g.events log) n.event_is (marked_next g log n.entry n.event n.event_is n.next_is)
+    ∙ sym (scheduled_listed g log)
 
 pub rounds_more : (g : Input) (f : Event) (log : Log) → IsLawful g log → rounds (g.events ++ f ∷ []) log ≡ rounds g.events log
 rounds_more g f [] l = refl
-rounds_more g f (Mark e ∷ log) l = λ i. unless_in_round (grows g f log l.1 i).1 (rounds_more g f log l.1 i)
+rounds_more g f (Mark e ∷ log) l =
+    rounds_marked (g.events ++ f ∷ []) e log
+    ∙ (λ i. unless_over (grows g f log l.1 i).1 (rounds_more g f log l.1 i))
+    ∙ sym (rounds_marked g.events e log)
 rounds_more g f (Redeclares t ∷ log) l = refl
 rounds_more g f (Round es ∷ log) l = ap (λ n. suc n) (rounds_more g f log l.1)
 rounds_more g f (_ ∷ log) l = rounds_more g f log l.1
 
 pub round_more : (g : Input) (f : Event) (log : Log) → IsLawful g log → round_at (with_event g f) log ≡ round_at g log
-round_more g f log l = λ i. round_in (rounds_more g f log l i) (grows g f log l i).1
+round_more g f log l =
+    round_at_listed (with_event g f) log
+    ∙ (λ i. round_left (rounds_more g f log l i) (grows g f log l i).1)
+    ∙ sym (round_at_listed g log)
 
 -- what is reported of an event stays
 

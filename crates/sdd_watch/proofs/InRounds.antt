@@ -1,5 +1,6 @@
 -- Which events are left, and how many rounds were begun.
-use Rattle.sdd_watch.proofs.All.{Bool, Does, Entry, Event, Hand, Input, IsLawful, List, Log, Mark, None, Notes, Redeclare, Redeclares, Round, Settle, Some, Submitted, Up, [], after_mark, all_links, ap, calls_of, complete_parts, false, grows, inl, inr, left, mark_from, mark_is_next, mark_of, marks, next, no_events_quiet, quiet, refl, round, rounds, suc, sym, true, unless_in_round, with_end, ℕ, ◌++◌, ◌∙◌, ◌∷◌, ◌≡◌, ◌≢◌, ◌⊎◌}
+use Rattle.sdd_watch.proofs.All.{Bool, Does, Entry, Event, Hand, Input, IsLawful, List, Log, Mark, None, Notes, Redeclare, Redeclares, Round, Settle, Some, Submitted, Up, [], after_mark, all_links, ap, calls_of, complete_parts, false, grows, inl, inr, left, mark_from, mark_is_next, mark_of, marks, next, no_events_quiet, quiet, refl, round, rounds, suc, sym, true, with_end, ℕ, ◌++◌, ◌∙◌, ◌∷◌, ◌≡◌, ◌≢◌, ◌⊎◌}
+use Rattle.sdd_watch.proofs.PlacesListed.{rounds_marked, unless_over}
 use Rattle.sdd_watch.proofs.EachEvent.{event_of, one_only}
 
 -- A round begins where no round is in progress and the links aren't quiet, and it has an event.
@@ -35,9 +36,9 @@ begins_round g log es n =
 -- where no event is left, no round was begun for one
 pub no_rounds_begun : (g : Input) (log : Log) → IsLawful g log → (left g.events log).0 ≡ [] → rounds g.events log ≡ 0
 no_rounds_begun g [] l h = refl
-no_rounds_begun g (Mark e ∷ log) l h = marked (left g.events log) (λ none. no_rounds_begun g log l.1 none) h
+no_rounds_begun g (Mark e ∷ log) l h = rounds_marked g.events e log ∙ marked (left g.events log) (λ none. no_rounds_begun g log l.1 none) h
   where
-    marked : (s : List Event × List Event) → (s.0 ≡ [] → rounds g.events log ≡ 0) → (after_mark s).0 ≡ [] → unless_in_round s.1 (rounds g.events log) ≡ 0
+    marked : (s : List Event × List Event) → (s.0 ≡ [] → rounds g.events log ≡ 0) → (after_mark s).0 ≡ [] → unless_over s.1 (rounds g.events log) ≡ 0
     marked (ws, []) before none = refl
     marked (ws, x ∷ r) before none = before none
 no_rounds_begun g (Redeclares t ∷ log) l h = refl

@@ -10,7 +10,7 @@ pub mod Came
 pub mod Committed
 pub mod Cut
 pub mod CutDifference
-mod EachEvent
+pub mod EachEvent
 mod EventIsReported
 pub mod FirstPlaces
 pub mod Flights
@@ -29,6 +29,7 @@ pub mod MadeLists
 pub mod Numbered
 pub mod PipesBegun
 pub mod PipesLooked
+pub mod PlacesListed
 pub mod PipesVisited
 pub mod Queued
 pub mod Recorded

@@ -1,8 +1,9 @@
 -- The rounds of a settle or a redeclare, reported event by event, over plain worlds.
-use Rattle.sdd_watch.proofs.All.{Event, Foreseen, Input, IsLawful, IsPossible, IsReported, IsTellable, IsToTell, IsTurn, List, Log, Mark, MatchOption, None, Option, Redeclare, Redeclares, Represents, Round, Rounding, Settle, Settling, Some, Something, Teller, TellsBetween, TellsRound, TellsSettled, Turn, World, [], after_mark, all_links, ap, arith, calls_of, events_of, false, few, foreseen_by, free, greatest_bound, left, length, marks, next, place_in, quiet, redeclare_next, refl, round_before, round_ends, round_in, rounds, settled, subst, suc, sym, true, unless_in_round, with_event, ℕ, ◌++◌, ◌+◌, ◌-◌, ◌<◌, ◌^◌, ◌∙◌, ◌∷◌, ◌≡◌, ◌≢◌, ◌≤◌}
+use Rattle.sdd_watch.proofs.All.{Event, Foreseen, Input, IsLawful, IsPossible, IsReported, IsTellable, IsToTell, IsTurn, List, Log, Mark, MatchOption, None, Option, Redeclare, Redeclares, Represents, Round, Rounding, Settle, Settling, Some, Something, Teller, TellsBetween, TellsRound, TellsSettled, Turn, World, [], after_mark, all_links, ap, arith, calls_of, events_of, false, few, foreseen_by, free, greatest_bound, left, length, marks, next, quiet, redeclare_next, refl, round_before, round_ends, rounds, settled, subst, suc, sym, true, with_event, ℕ, ◌++◌, ◌+◌, ◌-◌, ◌<◌, ◌^◌, ◌∙◌, ◌∷◌, ◌≡◌, ◌≢◌, ◌≤◌}
 use Rattle.sdd_watch.proofs.EachEvent.{IsMarkedBetween, goes_on, is_between, last_is}
 use Rattle.sdd_watch.proofs.EventIsReported.{AddsReport, marked_to_end, tells_given, tells_on, tells_round, turn_at_end}
 use Rattle.sdd_watch.proofs.GivenMore.{one_longer, rounds_more}
+use Rattle.sdd_watch.proofs.PlacesListed.{place_left, round_at_listed, round_left, rounds_marked, scheduled_listed, unless_over}
 use Rattle.sdd_watch.proofs.InRounds.{begins_round, left_above, no_rounds_begun, none_left_loud, one_is_left, rounds_stay}
 
 -- what is known of an option that has something, or nothing
@@ -77,14 +78,15 @@ module _ (w w2 : World) (g : Input) (log more : Log) (e ev : Event) (rest : List
   turn_is : (turn : Turn) → turn.event ≡ ev → turn.scheduled ≡ place → turn.round ≡ Some (number + 1) → IsTurn g log more turn
   turn_is turn event scheduled round =
       let total : ℕ = length g.events in
-      let alone : place_in total (e ∷ [], ev ∷ rest) ≡ total = omega arith in
+      let alone : place_left total (e ∷ [], ev ∷ rest) ≡ total = omega arith in
       let after : number + 1 ≡ suc number = omega arith in
       record {
         event = event ∙ sym (last_is g log more ev marked);
-        scheduled = scheduled ∙ h.place_is ∙ sym (ap (place_in total) left_is ∙ alone);
+        scheduled = scheduled ∙ h.place_is ∙ sym (scheduled_listed g log ∙ ap (place_left total) left_is ∙ alone);
         round =
             round ∙ ap (λ n. Some n) after
-            ∙ sym (ap (round_in (rounds g.events log)) (ap (λ (s : List Event × List Event). s.1) left_is)
+            ∙ sym (round_at_listed g log
+            ∙ ap (round_left (rounds g.events log)) (ap (λ (s : List Event × List Event). s.1) left_is)
             ∙ ap (λ n. Some n) h.rounds_are);
       }
 
@@ -123,7 +125,8 @@ module _ (w w2 : World) (g : Input) (log more : Log) (e ev : Event) (rest : List
       let behind : (left g.events (Mark ev ∷ log)).1 ≡ rest = ap (λ (s : List Event × List Event). s.1) left_behind in
       ap (rounds g.events) parts.1
       ∙ rounds_stay g parts.0 (Mark ev) ev log (subst (IsLawful g) parts.1 r.calm.rests.lawful) refl one_above (over ∙ sym behind)
-      ∙ ap (λ (s : List Event × List Event). unless_in_round s.1 (rounds g.events log)) left_is
+      ∙ rounds_marked g.events ev log
+      ∙ ap (λ (s : List Event × List Event). unless_over s.1 (rounds g.events log)) left_is
       ∙ h.rounds_are
 
   -- and reported

@@ -2,13 +2,6 @@
 use Rattle.std.specs.Prelude.{ℕ, suc, ◌-◌, ◌==◌, Bool, true, false, not, ◌&&◌, ◌||◌, if◌then◌else◌, List, [], ◌∷◌, ◌++◌, drop, filter, find, fold, is_some, length, map, Option, Some, None}
 use Rattle.std.specs.Ordering.{int_cmp, is_eq}
 use Rattle.std.specs.List.{flat_map, list_any}
-use Rattle.sdd_obligations.specs.All.{Ack, Apply, Change, Commit, D, Deliver, DmNo, Down, Event, Input, History, Log, Lose, Mark, Message, Msg, Packet, Rec, Redeclare, Redeclares, Repeat, Resend, Round, Row, Settle, Site, Submit, T, Tick, Up, all_links, dated, delivered, nth_era, handed, history, is_down, is_empty, left, link_of, local_of, marks, packet_at, redeclares, same_site, setting_of, sites, txn_at, TxnNo}
-use Rattle.sdd_obligations.specs.copy.Contents.{Dated, latest, of_fragment}
-use Rattle.sdd_obligations.specs.invariants.Steps.{changes_at}
-use Rattle.sdd_obligations.specs.history.declared.record.Rec.TheVariants.{Submit as Submission}
-use Rattle.sdd_obligations.specs.logs.Due.{home_of as class_site}
-use Rattle.sdd_obligations.specs.logs.Marks.{from_event}
-use Rattle.sdd_obligations.specs.net.Links.{unacked}
 use Rattle.sdd_inside.specs.declared.delta.Found.{Found}
 use Rattle.sdd_inside.specs.declared.delta.Found.TheVariants as founds
 use Rattle.sdd_inside.specs.declared.delta.RowDelta.{RowDelta}
@@ -16,6 +9,31 @@ use Rattle.sdd_inside.specs.declared.delta.Taken.{Taken}
 use Rattle.sdd_inside.specs.declared.delta.Taken.TheVariants as takens
 use Rattle.sdd_inside.specs.declared.moment.Happened.{Happened}
 use Rattle.sdd_inside.specs.declared.standing.SiteState.{SiteState}
+use Rattle.sdd_obligations.specs.base.Sites.{same_site, sites}
+use Rattle.sdd_obligations.specs.base.Words.{is_empty}
+use Rattle.sdd_obligations.specs.base.declared.change.Change.{Change}
+use Rattle.sdd_obligations.specs.base.declared.event.Event.{Event}
+use Rattle.sdd_obligations.specs.base.declared.event.Event.TheVariants.{Deliver, Down, Lose, Redeclare, Repeat, Resend, Settle, Submit, Tick, Up}
+use Rattle.sdd_obligations.specs.base.declared.number.DmNo.{DmNo}
+use Rattle.sdd_obligations.specs.base.declared.number.TxnNo.{TxnNo}
+use Rattle.sdd_obligations.specs.base.declared.site.Site.{Site}
+use Rattle.sdd_obligations.specs.base.declared.site.Site.TheVariants.{D, T}
+use Rattle.sdd_obligations.specs.copy.Contents.{Dated, latest, of_fragment}
+use Rattle.sdd_obligations.specs.dm.Copies.{dated}
+use Rattle.sdd_obligations.specs.history.Records.{History}
+use Rattle.sdd_obligations.specs.history.declared.record.Rec.{Rec}
+use Rattle.sdd_obligations.specs.history.declared.record.Rec.TheVariants.{Apply, Commit, Submit as Submission}
+use Rattle.sdd_obligations.specs.invariants.Steps.{changes_at}
+use Rattle.sdd_obligations.specs.lang.Database.{Row}
+use Rattle.sdd_obligations.specs.logs.Due.{home_of as class_site}
+use Rattle.sdd_obligations.specs.logs.Entries.{Input, Log, Mark, Redeclares, Round, history, marks}
+use Rattle.sdd_obligations.specs.logs.Locals.{local_of, nth_era, redeclares, setting_of, txn_at}
+use Rattle.sdd_obligations.specs.logs.Marks.{Ahead, BetweenRounds, InRound, ahead, from_event}
+use Rattle.sdd_obligations.specs.logs.Traffic.{all_links, handed, is_down, link_of}
+use Rattle.sdd_obligations.specs.net.Links.{delivered, packet_at, unacked}
+use Rattle.sdd_obligations.specs.net.declared.packet.Packet.{Packet}
+use Rattle.sdd_obligations.specs.net.declared.packet.Packet.TheVariants.{Ack, Message}
+use Rattle.sdd_obligations.specs.wire.declared.msg.Msg.{Msg}
 use Rattle.sdd_run.specs.world.Pending.{commits}
 use Rattle.sdd_watch.specs.States.{state_of}
 
@@ -26,39 +44,40 @@ last_event (Mark e ∷ log) = e
 last_event (Redeclares t ∷ log) = Redeclare
 last_event (_ ∷ log) = last_event log
 
--- where it stands in the schedule, by what is left of the events and of the round before its mark
+-- where it stands in the schedule, by what is ahead before its mark
 
 -- of a list with so many events the place, from 1, of the first of these that are left of it
 abbrev pub place_of_first : ℕ → List Event → ℕ
 place_of_first total events = suc total - length events
 
 -- an event of a round belongs to the first event that is left; before another one settles may stand that are reached
-abbrev pub place_in : ℕ → List Event × List Event → ℕ
-place_in total (events, []) = place_of_first total (from_event events)
-place_in total (events, e ∷ round) = place_of_first total events
+abbrev pub place_in : ℕ → Ahead → ℕ
+place_in total (InRound e rest events) = place_of_first total events
+place_in total (BetweenRounds events) = place_of_first total (from_event events)
 
 abbrev pub scheduled_at : Input → Log → ℕ
-scheduled_at g log = place_in (length g.events) (left g.events log)
+scheduled_at g log = place_in (length g.events) (ahead g.events log)
 
--- how many rounds were begun since the last event of the schedule, where an event of a round is marked or left
+-- how many rounds were begun since the last event of the schedule, where an event of a round is marked or ahead
 
-abbrev pub unless_in_round : List Event → ℕ → ℕ
-unless_in_round [] n = 0
-unless_in_round (e ∷ round) n = n
+-- so many within a round, none where the event that is marked is itself of the schedule
+abbrev pub if_in_round : Ahead → ℕ → ℕ
+if_in_round (InRound e rest events) n = n
+if_in_round (BetweenRounds events) n = 0
 
 abbrev pub rounds : List Event → Log → ℕ
 rounds events [] = 0
-rounds events (Mark e ∷ log) = unless_in_round (left events log).1 (rounds events log)
+rounds events (Mark e ∷ log) = if_in_round (ahead events log) (rounds events log)
 rounds events (Redeclares t ∷ log) = 0
 rounds events (Round es ∷ log) = suc (rounds events log)
 rounds events (_ ∷ log) = rounds events log
 
-abbrev pub round_in : ℕ → List Event → Option ℕ
-round_in n [] = None
-round_in n (e ∷ round) = Some n
+abbrev pub round_in : ℕ → Ahead → Option ℕ
+round_in n (InRound e rest events) = Some n
+round_in n (BetweenRounds events) = None
 
 abbrev pub round_at : Input → Log → Option ℕ
-round_at g log = round_in (rounds g.events log) (left g.events log).1
+round_at g log = round_in (rounds g.events log) (ahead g.events log)
 
 -- what it found
 

@@ -1,4 +1,5 @@
 -- How sites stand, by what their modules keep of their logs.
+-- For the contracts of the code: not needed to read `IsInsideOf`.
 use Rattle.std.specs.Prelude.{ℕ, List, map, option_map, Option, Some, None}
 use Rattle.sdd_obligations.specs.All.{ClassNo, ClassState, Cond, class_no}
 use Rattle.sdd_obligations.specs.attempt.Lines.{Line}

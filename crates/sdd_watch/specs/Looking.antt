@@ -1,4 +1,5 @@
 -- What a look at the parts of a world finds, and what of it is kept, by what was kept before.
+-- For the contracts of the code: not needed to read `IsInsideOf`.
 use Rattle.std.specs.Prelude.{ℕ, ◌+◌, ◌≡◌, ◌==◌, ◌&&◌, Bool, false, if◌then◌else◌, List, [], ◌++◌, filter, filter_map, find, length, map, Option, Some, None}
 use Rattle.std.specs.List.{list_any}
 use Rattle.sdd_obligations.specs.All.{D, Input, Log, Msg, Packet, Queued, Site, U, class_no}

@@ -1,5 +1,6 @@
 -- Which links an event may change: those on which it delivers, loses, repeats or resends, those to a module that comes up,
 -- and those from the site that acts.
+-- For the contracts of the code: not needed to read `IsInsideOf`.
 use Rattle.std.specs.Prelude.{Bool, false, true, ◌&&◌, ◌||◌}
 use Rattle.sdd_obligations.specs.All.{D, Deliver, Event, Input, Log, Lose, Repeat, Resend, Site, Submit, Up, nth_era, redeclares, same_site, txn_at}
 use Rattle.sdd_obligations.specs.logs.Due.{home_of}

@@ -1,4 +1,5 @@
 -- What is reported so far, while a world carries out a schedule.
+-- For the contracts of the code: not needed to read `IsInsideOf`.
 use Rattle.std.specs.Prelude.{ℕ, suc, ◌≤◌, ◌≡◌, false, List, [], ◌∷◌, length}
 use Rattle.sdd_obligations.specs.All.{Event, Input, IsTheLog, Log, all_links, calls_of, left, marks, quiet}
 use Rattle.sdd_run.specs.world.Represents.{IsSettled, Represents, Rounding, Settling}

@@ -1,13 +1,14 @@
 -- The text of what happens inside the run of a workload.
 use Rattle.std.specs.Prelude.{ℕ, ◌-◌, ◌≡◌, List, [], ◌++◌}
 use Rattle.std.specs.List.{flat_map}
-use Rattle.sdd_obligations.specs.All.{Catalogue, Input, Log, marks, numbers_to}
 use Rattle.sdd_inside.specs.Differences.{difference}
 use Rattle.sdd_inside.specs.Lines.{beginning, line}
 use Rattle.sdd_inside.specs.declared.delta.Delta.{Delta}
-use Rattle.sdd_run.specs.world.Copies.{tables_of}
+use Rattle.sdd_obligations.specs.catalog.Catalogue.{Catalogue, numbers_to}
+use Rattle.sdd_obligations.specs.logs.Entries.{Input, Log, marks}
 use Rattle.sdd_run.specs.Runs.{Run, input}
 use Rattle.sdd_run.specs.script.declared.workload.Workload.{Workload}
+use Rattle.sdd_run.specs.world.Copies.{tables_of}
 use Rattle.sdd_watch.specs.Happens.{happened_at}
 use Rattle.sdd_watch.specs.Moments.{at_event, moment_of}
 

@@ -1,4 +1,5 @@
 -- What is kept between two events of what stood where, as the log gives it when the last event was over.
+-- For the contracts of the code: not needed to read `IsInsideOf`.
 use Rattle.std.specs.Prelude.{ℕ, ◌-◌, ◌≡◌, ◌==◌, ◌&&◌, Bool, cond, false, not, if◌then◌else◌, List, [], ◌∷◌, ◌++◌, drop, filter, filter_map, is_some, length, map, option_map, Option, Some, None}
 use Rattle.std.specs.BTreeMap.{get}
 use Rattle.std.specs.BTreeSet.{contains}

@@ -19,7 +19,7 @@ pub use Rattle.sdd_needs.proofs.lang.Pushdown.{and_parts}
 pub use Rattle.sdd_needs.proofs.lang.catalog.Validity.{not_false}
 pub use Rattle.sdd_needs.proofs.logs.Acts.{calls_acts, ends_in_acts, history_acts, is_down_acts, left_acts, linked_acts, marks_acts, other_acts, own_acts, puts-append, puts_past-append}
 pub use Rattle.sdd_needs.proofs.logs.Beginning.{next_at_first, rests_at_first}
-pub use Rattle.sdd_needs.proofs.logs.Completing.{IsFree, IsSingle, event_left, in_round, none_left, one_more, redeclare_next, round_next, settled}
+pub use Rattle.sdd_needs.proofs.logs.Completing.{OnlyMarksAreDue, IsSingle, event_left, in_round, none_left, one_more, redeclare_next, round_next, settled}
 pub use Rattle.sdd_needs.proofs.logs.Delivering.{ack_same, delivers_ack, delivers_kept, delivers_messages, delivers_nothing, none_remains, nothing_same, remain_beside, remain_more}
 pub use Rattle.sdd_needs.proofs.logs.EachLocal.{allowed_act}
 pub use Rattle.sdd_needs.proofs.logs.FirstHand.{listed, none_to_hand}
@@ -63,9 +63,10 @@ pub use Rattle.sdd_world.specs.DueAt.{next_of}
 pub use Rattle.sdd_world.specs.Following.{Followed, IsPast, MaySend, Sending}
 pub use Rattle.sdd_world.specs.Kinds.{AreLinked}
 pub use Rattle.sdd_world.specs.Modules.{AllRepresent, AreRedeclared, LivesD, LivesT, LivesU, Represent}
-pub use Rattle.sdd_world.specs.Pending.{AreCommitted, commits, last_home, pending_by, status_at, unmet, wait_at, wait_for, waits_of, why_of}
+pub use Rattle.sdd_world.specs.LastHomes.{AreCommitted, last_home, pending_at_last}
+pub use Rattle.sdd_world.specs.Pending.{commits, status_at, unmet, wait_at, wait_for, waits_of, why_of}
 pub use Rattle.sdd_world.specs.Schedules.{AreAllowed, IsAllowed, IsListed, lists_after, takes_rounds, with_events}
-pub use Rattle.sdd_world.specs.Represents.{Ahead, Arrives, Before, Calm, EndsBy, HandedOn, Handing, Happened, IsNextList, IsSettled, IsSoundNetwork, Keeping, KeepsFor, Marked, Parts, Redeclaring, Represents, Risen, Rising, Rounding, Settles, Settling, Spooled, ahead_of}
+pub use Rattle.sdd_world.specs.Represents.{Position, Arrives, Before, Calm, EndsBy, HandedOn, Handing, Happened, IsNextList, IsSettled, IsSoundNetwork, Keeping, KeepsFor, Marked, Parts, Redeclaring, Represents, Risen, Rising, Rounding, Settles, Settling, Spooled, position_of}
 pub use Rattle.sdd_world.specs.Standings.{standing_of}
 pub use Rattle.sdd_world.specs.declared.ends.WorldEnd.{WorldEnd}
 pub use Rattle.sdd_world.specs.declared.ends.WorldEnd.TheVariants.{Limit}

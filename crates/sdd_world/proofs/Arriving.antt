@@ -1,5 +1,5 @@
 -- Messages have come to a site: they are handed over, or kept.
-use Rattle.sdd_world.proofs.All.{Arrives, D, Deliver, DmNo, HandedOn, Handing, Happened, Input, IsSiteOf, Keeping, List, Log, Mark, Msg, Represent, Site, Spooled, U, World, [], ahead_of, ap, delivers_messages, from_one, is_down, link_parts, local_of, setting_of, subst, sym, takes_part, true, ℕ, ◌∙◌, ◌∷◌, ◌≡◌}
+use Rattle.sdd_world.proofs.All.{Arrives, D, Deliver, DmNo, HandedOn, Handing, Happened, Input, IsSiteOf, Keeping, List, Log, Mark, Msg, Represent, Site, Spooled, U, World, [], position_of, ap, delivers_messages, from_one, is_down, link_parts, local_of, setting_of, subst, sym, takes_part, true, ℕ, ◌∙◌, ◌∷◌, ◌≡◌}
 use Rattle.sdd_world.proofs.Keeping.{keeping_begins, kept_happened}
 use Rattle.sdd_world.proofs.Delivering.{beside, but_for, handed_calm}
 
@@ -36,7 +36,7 @@ module _ (w now : World) (g : Input) (log : Log) (a b : Site) (k : ℕ) (message
     spooled = subst (λ z. Spooled g (Mark (Deliver a b k) ∷ log) z b) (sym spool_is) (beside g a b k log w.spool (but_for g log w.spool b h.marked.spooled));
   }
 
-  pub is_over : (w2 : World) → takes_part b log ≡ true → HandedOn w2 g b (from_one a []) (ahead_of g (Mark (Deliver a b k) ∷ log)) now.spool → Happened w2 g log
+  pub is_over : (w2 : World) → takes_part b log ≡ true → HandedOn w2 g b (from_one a []) (position_of g (Mark (Deliver a b k) ∷ log)) now.spool → Happened w2 g log
   is_over w2 part d = handed_calm w now w2 g log a b k h.marked part h.same d
 
 module _ (w now : World) (g : Input) (log : Log) (a b : Site) (d : DmNo) (k : ℕ) (messages : List Msg) (h : Arrives w now g log a b k messages) (at : b ≡ D d)

@@ -1,5 +1,5 @@
 -- A packet arrives: what it brings is handed over, or kept for a module that is down.
-use Rattle.sdd_world.proofs.All.{Acked, Ahead, Arrives, Call, Carries, D, Deliver, Delivered, Delivers, HandedOn, Handing, Happened, Input, IsFirst, IsLinkOf, KeepsFor, List, Log, Mailbox, Mark, Marked, Messages, Msg, NetValue, Noted, Nothing, Site, Spooled, TakesAway, U, World, [], ack_same, ahead_of, all_handed, and_right, ap, calls_of, delivered, delivers_ack, delivers_nothing, delivery, dm_no, false, first_of_one, from_one, handed, is_down, link, link_of, mailbox_at, none_of_one, nothing_same, refl, remain_beside, same_is, same_site, sent_stays, subst, sym, takes_of_one, takes_part, true, up_of, ℕ, ◌++◌, ◌+◌, ◌∙◌, ◌∷◌, ◌≡◌}
+use Rattle.sdd_world.proofs.All.{Acked, Position, Arrives, Call, Carries, D, Deliver, Delivered, Delivers, HandedOn, Handing, Happened, Input, IsFirst, IsLinkOf, KeepsFor, List, Log, Mailbox, Mark, Marked, Messages, Msg, NetValue, Noted, Nothing, Site, Spooled, TakesAway, U, World, [], ack_same, position_of, all_handed, and_right, ap, calls_of, delivered, delivers_ack, delivers_nothing, delivery, dm_no, false, first_of_one, from_one, handed, is_down, link, link_of, mailbox_at, none_of_one, nothing_same, refl, remain_beside, same_is, same_site, sent_stays, subst, sym, takes_of_one, takes_part, true, up_of, ℕ, ◌++◌, ◌+◌, ◌∙◌, ◌∷◌, ◌≡◌}
 use Rattle.sdd_world.proofs.Marking.{marked_noted, marked_plain}
 use Rattle.sdd_world.proofs.Parting.{spooled_on}
 
@@ -100,7 +100,7 @@ arrives w now g log a b k d messages m t f e same = record {
 -- once they are handed over, the event is done
 pub handed_calm : (w w1 w2 : World) (g : Input) (log : Log) (a b : Site) (k : ℕ)
     → Marked w g log (Deliver a b k) → takes_part b log ≡ true → w1 ≡ record w { net = w1.net }
-    → HandedOn w2 g b (from_one a []) (ahead_of g (Mark (Deliver a b k) ∷ log))
+    → HandedOn w2 g b (from_one a []) (position_of g (Mark (Deliver a b k) ∷ log))
     w1.spool → Happened w2 g log
 handed_calm w w1 w2 g log a b k m part same d =
     let h = d.handing in
@@ -120,20 +120,20 @@ handed_calm w w1 w2 g log a b k m part same d =
         spooled = subst (λ x. Spooled g d.more x U) (sym boxes)
             (with_busy g log d.more w.spool b m.spooled part h.waits.part (subst (λ x. Spooled g d.more x b) boxes h.spooled));
       };
-      ahead_is = d.ahead_is;
+      position_is = d.position_is;
     }
 
 -- one more was handed over
-pub handed_further : (w : World) (g : Input) (b : Site) (kept : Site → List Msg) (first now : Ahead)
+pub handed_further : (w : World) (g : Input) (b : Site) (kept : Site → List Msg) (first now : Position)
     (boxes before : List (Mailbox Msg)) → now ≡ first → before ≡ boxes
     → HandedOn w g b kept now before → HandedOn w g b kept first boxes
-handed_further w g b kept first now boxes before e f d = record { more = d.more; handing = d.handing; ahead_is = d.ahead_is ∙ e; spool_is = d.spool_is ∙ f }
+handed_further w g b kept first now boxes before e f d = record { more = d.more; handing = d.handing; position_is = d.position_is ∙ e; spool_is = d.spool_is ∙ f }
 
 -- none is handed over yet
 pub handed_none : (w : World) (g : Input) (log : Log) (from to : Site) (messages queue : List Msg)
-    → messages ≡ queue → Handing w g log to (from_one from messages) → HandedOn w g to (from_one from queue) (ahead_of g log) w.spool
+    → messages ≡ queue → Handing w g log to (from_one from messages) → HandedOn w g to (from_one from queue) (position_of g log) w.spool
 handed_none w g log from to messages queue e h =
-    record { more = log; handing = subst (λ q. Handing w g log to (from_one from q)) e h; ahead_is = refl; spool_is = refl }
+    record { more = log; handing = subst (λ q. Handing w g log to (from_one from q)) e h; position_is = refl; spool_is = refl }
 
 pub handed_whole : {A : Type 0} (messages queue : List A) {items : List A} → items ≡ messages → queue ≡ items → messages ≡ queue
 handed_whole messages queue e f = sym (f ∙ e)

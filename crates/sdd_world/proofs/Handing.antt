@@ -1,6 +1,6 @@
 -- A message is handed over, and its module does what is due, over plain worlds.
-use Rattle.sdd_world.proofs.All.{Act, All, AllLinked, AreDue, AreLinked, Bases, Carries, D, EndsBy, Followed, Hand, HandedOn, Handing, Input, IsFirst, IsLawful, IsPast, IsSiteOf, List, Log, MaySend, Msg, Outcome, Rec, Represent, Setting, Site, Sites, Some, Spooled, TakesAway, U, World, [], after_acts, ahead_of, good_input, and_right, ap, base_of, calls_acts, calls_of, dm_no, ends_in_acts, false, first_lawful, first_next, fits, handed, hands_first, history_acts, link_parts, linked_acts, local_of, log_after, map, marks, marks_acts, next, next_in, next_of, nth_era, other_acts, other_hand, own_acts, puts, puts_past, records_of, refl, remain_other, same_here, same_is, same_site, sends_of, setting_of, subst, suc, sym, true, ℕ, ◌++◌, ◌∙◌, ◌∷◌, ◌≡◌, ◌≤◌}
-use Rattle.sdd_world.proofs.Parting.{ahead_acts, events_before, redeclares_acts, spooled_acts, spooled_on}
+use Rattle.sdd_world.proofs.All.{Act, All, AllLinked, AreDue, AreLinked, Bases, Carries, D, EndsBy, Followed, Hand, HandedOn, Handing, Input, IsFirst, IsLawful, IsPast, IsSiteOf, List, Log, MaySend, Msg, Outcome, Rec, Represent, Setting, Site, Sites, Some, Spooled, TakesAway, U, World, [], after_acts, position_of, good_input, and_right, ap, base_of, calls_acts, calls_of, dm_no, ends_in_acts, false, first_lawful, first_next, fits, handed, hands_first, history_acts, link_parts, linked_acts, local_of, log_after, map, marks, marks_acts, next, next_in, next_of, nth_era, other_acts, other_hand, own_acts, puts, puts_past, records_of, refl, remain_other, same_here, same_is, same_site, sends_of, setting_of, subst, suc, sym, true, ℕ, ◌++◌, ◌∙◌, ◌∷◌, ◌≡◌, ◌≤◌}
+use Rattle.sdd_world.proofs.Parting.{position_acts, events_before, redeclares_acts, spooled_acts, spooled_on}
 use Rattle.sdd_needs.specs.site_module.SiteLog as site
 
 pub due_same : (g : Input) (b : Site) (bases : Bases) (l : site.Log) (acts : List Act)
@@ -107,7 +107,7 @@ module _ (w : World) (g : Input) (log : Log) (a b : Site) (m : Msg) (kept : Site
   -- it is recorded and sent
   pub hand_done : (s : Sites) (outcome : Outcome) (w2 : World) (less : Site → List Msg) → Taken s outcome → TakesAway kept less a rest
       → ((x : Site) (setting : Setting) (l : site.Log) → same_site x b ≡ false → Represent w.sites x setting l → Represent s x setting l)
-      → Followed (record w { sites = s }) w2 b outcome → HandedOn w2 g b less (ahead_of g log) w.spool
+      → Followed (record w { sites = s }) w2 b outcome → HandedOn w2 g b less (position_of g log) w.spool
   hand_done s outcome w2 less t k others d =
       let sent_all = d.net g.catalogue.tms g.catalogue.dms (calls_of log) h.parts.net (linked_out s outcome t) in
       let calls : calls_of (after_acts b t.acts handed_log) ≡ puts b outcome.out (calls_of log) =
@@ -136,6 +136,6 @@ module _ (w : World) (g : Input) (log : Log) (a b : Site) (m : Msg) (kept : Site
               (λ e apart x r k. remain_other log a b x (D (dm_no e)) (suc (handed a b log)) m r
               (and_right (same_site x a) (same_site (D (dm_no e)) b) apart) k) h.spooled));
         };
-        ahead_is = ahead_acts g b t.acts handed_log;
+        position_is = position_acts g b t.acts handed_log;
         spool_is = d.spool;
       }

@@ -1,6 +1,6 @@
 -- Events of which nothing more is due, or that find nothing to do, over plain worlds.
 use Rattle.sdd_world.proofs.All.{All, Bool, Call, Carries, D, Down, Event, Happened, Input, IsNoTick, IsSiteOf, List, Log, Lose, Loses, Mailbox, Mark, Marked, Msg, NetValue, None, Noted, Notes, Option, Packet, Remain, Repeat, Repeats, Represent, Resend, Resends, Rests, Site, Some, Spooled, TurnsNone, U, Up, World, [], after_mark, ap, arith, calls_of, delivered, delivered_lose, delivered_repeat, delivered_resend, dm_no, due_by, false, handed, handed_still, history, is_down, is_none, is_some, left, length, link, link_of, local_of, mark_local, marks, nat_lt, none_by_mark, note_if, nth_era, packet_at, redeclares, refl, rests_marked, rests_noted, sent_stays, setting_of, slice_get, subst, suc, sym, true, unacked_none, unacked_some, ℕ, ◌++◌, ◌+◌, ◌∙◌, ◌∷◌, ◌≡◌, ◌≤◌}
-use Rattle.sdd_world.proofs.Parting.{events_before, later, same_ahead, spooled_on}
+use Rattle.sdd_world.proofs.Parting.{events_before, later, same_position, spooled_on}
 use Rattle.sdd_world.proofs.Handing.{at_log}
 
 note_some : {M : Type 0} (o : Option (Packet M)) → is_some o ≡ true → note_if (is_none o) ≡ None
@@ -77,7 +77,7 @@ happened w w2 g log e more m s r = record {
     marks_are = s.marks ∙ m.marks_are ∙ sym r.marks_is;
     spooled = r.spooled;
   };
-  ahead_is = same_ahead (left g.events more) (after_mark (left g.events log)) (marks more) (suc (marks log)) r.left_is r.marks_is;
+  position_is = same_position (left g.events more) (after_mark (left g.events log)) (marks more) (suc (marks log)) r.left_is r.marks_is;
 }
 
 sites_marked : (w : World) (g : Input) (log : Log) (e : Event) → Marked w g log e → IsNoTick e → (x : Site) → IsSiteOf g x

@@ -1,5 +1,5 @@
 -- What the parts of a world represent, as the log goes on.
-use Rattle.sdd_world.proofs.All.{Act, Ahead, All, All-append, All-cons, All-nil, All-weaker, D, Does, Event, Hand, History, Input, KeepsFor, List, Log, Mailbox, Mark, Msg, Rec, Redeclares, Remain, Round, Site, Spooled, [], after_acts, ahead_of, arith, dm_no, false, history, is_down, is_down_acts, kept_from, left, left_acts, mailbox_at, map, marks, marks_acts, records_of_act, redeclares, refl, remain_acts, same_site, suc, sym, ℕ, ◌++◌, ◌∙◌, ◌∷◌, ◌≡◌, ◌≤◌}
+use Rattle.sdd_world.proofs.All.{Act, Position, All, All-append, All-cons, All-nil, All-weaker, D, Does, Event, Hand, History, Input, KeepsFor, List, Log, Mailbox, Mark, Msg, Rec, Redeclares, Remain, Round, Site, Spooled, [], after_acts, position_of, arith, dm_no, false, history, is_down, is_down_acts, kept_from, left, left_acts, mailbox_at, map, marks, marks_acts, records_of_act, redeclares, refl, remain_acts, same_site, suc, sym, ℕ, ◌++◌, ◌∙◌, ◌∷◌, ◌≡◌, ◌≤◌}
 
 -- no record is of a later event than the last
 
@@ -29,11 +29,11 @@ pub redeclares_acts : (at : Site) (acts : List Act) (log : Log) → redeclares (
 redeclares_acts at [] log = refl
 redeclares_acts at (a ∷ acts) log = redeclares_acts at acts (Does at a ∷ log)
 
-pub same_ahead : (a b : List Event × List Event) (m n : ℕ) → a ≡ b → m ≡ n → ◌≡◌ {A = Ahead} (record { rest = a; number = m }) (record { rest = b; number = n })
-same_ahead a b m n e f = rw (e, f) refl
+pub same_position : (a b : List Event × List Event) (m n : ℕ) → a ≡ b → m ≡ n → ◌≡◌ {A = Position} (record { rest = a; number = m }) (record { rest = b; number = n })
+same_position a b m n e f = rw (e, f) refl
 
-pub ahead_acts : (g : Input) (at : Site) (acts : List Act) (log : Log) → ahead_of g (after_acts at acts log) ≡ ahead_of g log
-ahead_acts g at acts log = same_ahead (left g.events (after_acts at acts log)) (left g.events log)
+pub position_acts : (g : Input) (at : Site) (acts : List Act) (log : Log) → position_of g (after_acts at acts log) ≡ position_of g log
+position_acts g at acts log = same_position (left g.events (after_acts at acts log)) (left g.events log)
     (marks (after_acts at acts log)) (marks log) (left_acts g.events at acts log) (marks_acts at acts log)
 
 -- mailboxes stay as the log goes on, where no module turns and what remains stays

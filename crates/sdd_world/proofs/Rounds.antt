@@ -1,5 +1,5 @@
 -- Rounds, settles and single events, over plain worlds.
-use Rattle.sdd_world.proofs.All.{AtEach, Before, Call, Calm, Carries, EndsBy, Event, Happened, Input, IsFree, IsGood, IsPossible, IsSettled, IsSingle, IsSoundNetwork, List, Log, MAX_RUN_EVENTS, Mailbox, Mark, Marked, Msg, Parts, Redeclare, Represent, Represents, Rests, Round, Rounding, Settle, Settling, Site, Some, Spooled, TakesRounds, U, World, [], after_mark, all_links, ap, arith, calls_of, each_of_round, event_left, false, few_marks, in_round, lawful_grows, left, length, links, local_of, lt-ltb, marks, next, no_events_quiet, none_left, none_to_hand, one_more, quiet, refl, round, round_next, setting_of, settled, still_none, subst, suc, sym, takes_part, true, with_event, ℕ, ◌++◌, ◌+◌, ◌<◌, ◌∙◌, ◌∷◌, ◌≡◌, ◌≢◌, ◌≤◌}
+use Rattle.sdd_world.proofs.All.{AtEach, Before, Call, Calm, Carries, EndsBy, Event, Happened, Input, OnlyMarksAreDue, IsGood, IsPossible, IsSettled, IsSingle, IsSoundNetwork, List, Log, MAX_RUN_EVENTS, Mailbox, Mark, Marked, Msg, Parts, Redeclare, Represent, Represents, Rests, Round, Rounding, Settle, Settling, Site, Some, Spooled, TakesRounds, U, World, [], after_mark, all_links, ap, arith, calls_of, each_of_round, event_left, false, few_marks, in_round, lawful_grows, left, length, links, local_of, lt-ltb, marks, next, no_events_quiet, none_left, none_to_hand, one_more, quiet, refl, round, round_next, setting_of, settled, still_none, subst, suc, sym, takes_part, true, with_event, ℕ, ◌++◌, ◌+◌, ◌<◌, ◌∙◌, ◌∷◌, ◌≡◌, ◌≢◌, ◌≤◌}
 use Rattle.sdd_world.proofs.Parting.{spooled_on}
 
 pub single : (g : Input) (e : Event) → IsPossible g e → IsSingle e
@@ -12,7 +12,7 @@ still_possible g x Settle p = absurd p
 still_possible g x Redeclare p = absurd p
 still_possible g x _ p = p
 
-pub free : (g : Input) (log : Log) → Rests g log → IsFree g log
+pub free : (g : Input) (log : Log) → Rests g log → OnlyMarksAreDue g log
 free g log r = record { no_mark = r.no_mark; no_site = r.no_site; no_hand = none_to_hand g log r.handed_all }
 
 part_round : (b : Site) (es : List Event) (log : Log) → takes_part b (Round es ∷ log) ≡ takes_part b log
@@ -104,7 +104,7 @@ round_after w w2 g log to events e rest r same h =
       record {
         calm = h.calm;
         waiting = r.waiting;
-        left_is = ap (λ a. a.rest) h.ahead_is ∙ ap after_mark (r.left_is ∙ ap (λ es. (r.waiting, es)) same);
+        left_is = ap (λ a. a.rest) h.position_is ∙ ap after_mark (r.left_is ∙ ap (λ es. (r.waiting, es)) same);
         rounds = r.rounds;
         ends = r.ends;
         possible = p.1;
@@ -112,7 +112,7 @@ round_after w w2 g log to events e rest r same h =
     )
 
 pub one_mark : (w w2 : World) (g : Input) (log : Log) → Calm w g log → Happened w2 g log → w2.marks ≡ suc w.marks
-one_mark w w2 g log c h = h.calm.marks_are ∙ ap (λ a. a.number) h.ahead_is ∙ ap (λ n. suc n) (sym c.marks_are)
+one_mark w w2 g log c h = h.calm.marks_are ∙ ap (λ a. a.number) h.position_is ∙ ap (λ n. suc n) (sym c.marks_are)
 
 pub round_ends : (w : World) (g : Input) (log : Log) (e : Event) (events : List Event) → Rounding w g log e events → events ≡ [] → Settling w g log e
 round_ends w g log e events r same = record {
@@ -166,7 +166,7 @@ step_after w w2 g log e s p h = (
   record {
     calm = h.calm;
     complete = none_left (with_event g e) h.more (free (with_event g e) h.more h.calm.rests)
-        (ap (λ a. a.rest) h.ahead_is ∙ (one_more g e log (single g e p) s.calm.rests.lawful s.complete).1);
+        (ap (λ a. a.rest) h.position_is ∙ (one_more g e log (single g e p) s.calm.rests.lawful s.complete).1);
   },
 )
 

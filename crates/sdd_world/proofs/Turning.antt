@@ -1,5 +1,5 @@
 -- A data module goes down, and comes up: what was kept for it is then handed over.
-use Rattle.sdd_world.proofs.All.{AllHanded, Bool, Carries, Cut, D, DmNo, Down, Event, HandedOn, Handing, Happened, Input, IsBefore, IsBelow, IsFirst, IsLowest, IsNoTick, IsSender, IsSiteOf, KeepsFor, List, Log, Mailbox, Mark, Marked, Msg, Noted, Notes, OnlyAt, Parts, Remain, Represent, Rests, Risen, Rising, Site, Some, Spooled, T, TakesAway, TakesFrom, U, Up, World, [], ahead_of, all_handed, and_from, ap, arith, calls_of, comes_up, cut_at_t, dm_no, eq-eqb, eqb-true, false, goes_down, if◌then◌else◌, is_down, is_down_already, is_site, isnt_down, kept_count, kept_from, le-leb, length, local_of, mailbox_at, nat_le, none_remains, not, not_false, number_of_t, refl, same_site, setting_of, sites, subst, suc, sym, tm_no, true, up_of as not_true, zero, ℕ, ◌&&◌, ◌++◌, ◌<◌, ◌==◌, ◌∙◌, ◌∷◌, ◌≡◌, ◌≢◌, ◌≤◌}
+use Rattle.sdd_world.proofs.All.{AllHanded, Bool, Carries, Cut, D, DmNo, Down, Event, HandedOn, Handing, Happened, Input, IsBefore, IsBelow, IsFirst, IsLowest, IsNoTick, IsSender, IsSiteOf, KeepsFor, List, Log, Mailbox, Mark, Marked, Msg, Noted, Notes, OnlyAt, Parts, Remain, Represent, Rests, Risen, Rising, Site, Some, Spooled, T, TakesAway, TakesFrom, U, Up, World, [], position_of, all_handed, and_from, ap, arith, calls_of, comes_up, cut_at_t, dm_no, eq-eqb, eqb-true, false, goes_down, if◌then◌else◌, is_down, is_down_already, is_site, isnt_down, kept_count, kept_from, le-leb, length, local_of, mailbox_at, nat_le, none_remains, not, not_false, number_of_t, refl, same_site, setting_of, sites, subst, suc, sym, tm_no, true, up_of as not_true, zero, ℕ, ◌&&◌, ◌++◌, ◌<◌, ◌==◌, ◌∙◌, ◌∷◌, ◌≡◌, ◌≢◌, ◌≤◌}
 use Rattle.sdd_world.proofs.Marking.{marked_noted, marked_plain}
 use Rattle.sdd_world.proofs.Keeping.{dm_within, same_dm as apart_of}
 use Rattle.sdd_world.proofs.Parting.{keeps_on as still_box}
@@ -277,9 +277,9 @@ pub rising_on : (w : World) (boxes : List (Mailbox Msg)) (w2 : World) (g : Input
     → IsLowest (mailbox_at w.spool d.0) from → length boxes ≡ length w.spool → OnlyAt w.spool boxes d.0
     → ((h : Input) (l : Log) (kept less : Site → List Msg) (rest : List Msg)
     → Handing (record w { spool = boxes }) h l (D d) kept → IsFirst h kept from (D d) m rest → TakesAway kept less from rest
-    → HandedOn w2 h (D d) less (ahead_of h l) boxes)
+    → HandedOn w2 h (D d) less (position_of h l) boxes)
     → (more : Log) × Handing w2 g more (D d)
-    (kept_from (mailbox_at w2.spool d.0)) × Rising g w2.spool d.0 × (ahead_of g more ≡ ahead_of g log)
+    (kept_from (mailbox_at w2.spool d.0)) × Rising g w2.spool d.0 × (position_of g more ≡ position_of g log)
 rising_on w boxes w2 g log d from m h r t l count only hand =
     let o = taken_out w (record w { spool = boxes }) g log d from m h r t count only refl in
     let k = hand g log (kept_from (mailbox_at w.spool d.0)) (kept_from (mailbox_at boxes d.0))
@@ -288,7 +288,7 @@ rising_on w boxes w2 g log d from m h r t l count only hand =
       k.more,
       subst (λ b. Handing w2 g k.more (D d) (kept_from (mailbox_at b d.0))) (sym k.spool_is) k.handing,
       subst (λ b. Rising g b d.0) (sym k.spool_is) o.1,
-      k.ahead_is,
+      k.position_is,
     )
 
 parts_spool : (w : World) (boxes : List (Mailbox Msg)) (g : Input) (log : Log) → Parts w g log → Parts (record w { spool = boxes }) g log
@@ -306,7 +306,7 @@ parts_spool w boxes g log p = record {
 
 -- nothing is left to be handed over
 pub none_left : (w : World) (boxes : List (Mailbox Msg)) (g : Input) (log more : Log) (d : DmNo) → Handing w g more (D d) (kept_from (mailbox_at w.spool d.0))
-    → Rising g w.spool d.0 → ahead_of g more ≡ ahead_of g log → mailbox_at boxes d.0 ≡ mailbox_at w.spool d.0
+    → Rising g w.spool d.0 → position_of g more ≡ position_of g log → mailbox_at boxes d.0 ≡ mailbox_at w.spool d.0
     → ((x : Site) → kept_from (mailbox_at w.spool d.0) x ≡ []) → length boxes ≡ length w.spool
     → OnlyAt w.spool boxes d.0 → Risen (record w { spool = boxes }) g log d.0
 none_left w boxes g log more d h r a same none count only = record {
@@ -322,14 +322,14 @@ none_left w boxes g log more d h r a same none count only = record {
     };
   };
   rising = record { here = r.here; count = count ∙ r.count; box_up = ap (λ b. b.down) same ∙ r.box_up; senders = ap (λ b. length b.queues) same ∙ r.senders };
-  ahead_is = a;
+  position_is = a;
   none = λ x. ap (λ b. kept_from b x) same ∙ none x;
 }
 
 -- once none is kept, the event is done
 pub risen : (w w2 : World) (g : Input) (log more : Log) (d : DmNo)
     → Marked w g log (Up d) → Handing w2 g more (D d)
-    (kept_from (mailbox_at w2.spool d.0)) → Rising g w2.spool d.0 → ahead_of g more ≡ ahead_of g (Mark (Up d) ∷ log)
+    (kept_from (mailbox_at w2.spool d.0)) → Rising g w2.spool d.0 → position_of g more ≡ position_of g (Mark (Up d) ∷ log)
     → ((x : Site) → kept_from (mailbox_at w2.spool d.0) x ≡ []) → Happened w2 g log
 risen w w2 g log more d m h r e none = record {
   more = more;
@@ -348,8 +348,8 @@ risen w w2 g log more d m h r e none = record {
         record { down_is = r.box_up ∙ sym up; senders = r.senders; kept = λ p x. (let no : true ≡ false = sym p ∙ up in cc); empty = λ p x. none x })
         h.spooled;
   };
-  ahead_is = e;
+  position_is = e;
 }
 
 pub came_up : (w w1 w2 : World) (g : Input) (log : Log) (d : DmNo) → Marked w g log (Up d) → Risen w2 g (Mark (Up d) ∷ log) d.0 → Happened w2 g log
-came_up w w1 w2 g log d m r = risen w w2 g log r.more d m r.handing r.rising r.ahead_is r.none
+came_up w w1 w2 g log d m r = risen w w2 g log r.more d m r.handing r.rising r.position_is r.none

@@ -9,4 +9,5 @@ pub mod Schedules
 pub mod Represents
 pub mod Standings
 pub mod Copies
+pub mod LastHomes
 pub mod Pending

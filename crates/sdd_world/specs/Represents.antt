@@ -54,7 +54,7 @@ pub record Parts (w : World) (g : Input) (log : Log) : Type 0 where
   pub sites : AllRepresent w.sites g log
   pub net : Carries w.net g.catalogue.tms g.catalogue.dms (calls_of log)
 
--- between events
+-- between events: the parts of a world represent a log at which nothing but a mark is due (`Rests`)
 pub record Calm (w : World) (g : Input) (log : Log) : Type 0 where
   pub parts : Parts w g log
   pub rests : Rests g log
@@ -86,15 +86,15 @@ pub record Handing (w : World) (g : Input) (log : Log) (b : Site) (kept : Site �
   pub marks_are : w.marks ≡ marks log
   pub spooled : Spooled g log w.spool b
 
--- what is left of the events and of the round, and the number of the event
-pub record Ahead : Type 0 where
+-- where a run stands: what is left of its events and of a round, and how many events there were
+pub record Position : Type 0 where
   pub rest : List Event × List Event
   pub number : ℕ
 
-abbrev pub ahead_of : Input → Log → Ahead
-ahead_of g log = record { rest = left g.events log; number = marks log }
+abbrev pub position_of : Input → Log → Position
+position_of g log = record { rest = left g.events log; number = marks log }
 
-abbrev pub after_event : Input → Log → Ahead
+abbrev pub after_event : Input → Log → Position
 after_event g log = record { rest = after_mark (left g.events log); number = suc (marks log) }
 
 abbrev pub EndsBy : Input → Type 0
@@ -104,13 +104,13 @@ EndsBy g = (more : Log) × EndsByLimit g more
 pub record Happened (w : World) (g : Input) (log : Log) : Type 0 where
   pub more : Log
   pub calm : Calm w g more
-  pub ahead_is : ahead_of g more ≡ after_event g log
+  pub position_is : position_of g more ≡ after_event g log
 
 -- messages were handed over, and these are left
-pub record HandedOn (w : World) (g : Input) (b : Site) (kept : Site → List Msg) (ahead : Ahead) (boxes : List (Mailbox Msg)) : Type 0 where
+pub record HandedOn (w : World) (g : Input) (b : Site) (kept : Site → List Msg) (position : Position) (boxes : List (Mailbox Msg)) : Type 0 where
   pub more : Log
   pub handing : Handing w g more b kept
-  pub ahead_is : ahead_of g more ≡ ahead
+  pub position_is : position_of g more ≡ position
   pub spool_is : w.spool ≡ boxes
 
 -- between events all that was given is carried out: the log is complete
@@ -130,7 +130,8 @@ pub record Settling (w : World) (g : Input) (log : Log) (e : Event) : Type 0 whe
 abbrev pub Settles : World → Input → Event → Type 0
 Settles w g e = (more : Log) × Settling w g more e
 
--- the rounds are over: nothing is in flight, and all is acknowledged
+-- The rounds are over: nothing is in flight, and all is acknowledged. Said of a world within a settle or a redeclare;
+-- `IsSettled` of sdd_progress is said of a log at which nothing is next.
 pub record IsSettled (w : World) (g : Input) (e : Event) : Type 0 where
   pub more : Log
   pub settling : Settling w g more e
@@ -168,5 +169,5 @@ pub record Risen (now : World) (g : Input) (log : Log) (d : ℕ) : Type 0 where
   pub more : Log
   pub handing : Handing now g more (D (dm_no d)) (kept_from (mailbox_at now.spool d))
   pub rising : Rising g now.spool d
-  pub ahead_is : ahead_of g more ≡ ahead_of g log
+  pub position_is : position_of g more ≡ position_of g log
   pub none : (x : Site) → kept_from (mailbox_at now.spool d) x ≡ []

@@ -3,7 +3,8 @@ ghost use Rattle.std.specs.Prelude.{◌≡◌, ◌||◌, ℕ, IfOk, OnOk};
 ghost use Rattle.std.specs.BTreeSet.{contains};
 ghost use Rattle.std.specs.Ordering.{nat_cmp};
 ghost use Rattle.sdd_needs.specs.All.{History};
-ghost use Rattle.sdd_world.specs.Pending.{AreCommitted, commits};
+ghost use Rattle.sdd_world.specs.LastHomes.{AreCommitted};
+ghost use Rattle.sdd_world.specs.Pending.{commits};
 
 use sdd_base::NoMemory;
 use sdd_history::Rec;

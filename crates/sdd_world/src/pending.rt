@@ -1,9 +1,9 @@
 //! What is pending when a run ends.
 ghost use Rattle.std.specs.Prelude.{◌≡◌, ◌++◌, ◌∷◌, [], filter_map, IfOk, OnOk};
 ghost use Rattle.sdd_needs.specs.All.{History, Input, Log};
-ghost use Rattle.sdd_world.specs.Pending.{AreCommitted, last_home, pending_as, pending_at, pending_by, reason_of};
+ghost use Rattle.sdd_world.specs.LastHomes.{AreCommitted, all_at_last, pending_at_last, why_at_last};
+ghost use Rattle.sdd_world.specs.Pending.{pending_as};
 ghost use Rattle.sdd_world.specs.Represents.{Represents};
-ghost use Rattle.sdd_world.specs.Standings.{standing_of};
 
 use crate::commits::committed_txns;
 use crate::world::World;
@@ -18,7 +18,7 @@ impl World<'_> {
     fn pending_one(&self, alloc: Global, number: TxnNo) -> Result<Option<Pending>, NoMemory>
         requires { (g : Input) × (log : Log) × Represents self.now g log }
         ensures { IfOk result (λ one. (g : Input) (log : Log) → Represents self.now g log
-            → one ≡ pending_as number (reason_of standing_of (last_home g log) g log number.0)) }
+            → one ≡ pending_as number (why_at_last g log number.0)) }
     {
         match self.why(alloc, number)? {
             Some(why) => Ok(Some(Pending { txn: number, why })),
@@ -36,7 +36,7 @@ impl World<'_> {
         requires { (g : Input) × (log : Log) × Represents self.now g log }
         ensures { IfOk result (λ one. (g : Input) (log : Log) (all : History)
             → Represents self.now g log → AreCommitted committed.now all
-            → one ≡ pending_by standing_of (last_home g log) g log all entry.now) }
+            → one ≡ pending_at_last g log all entry.now) }
     {
         let Rec::Submit(number) = &entry.1 else {
             return Ok(None);
@@ -59,7 +59,7 @@ impl World<'_> {
         ensures { OnOk result ((g : Input) (log : Log) (all : History)
             → Represents self.now g log → AreCommitted committed.now all
             → found.new.items ≡ found.old.items
-            ++ filter_map (pending_by standing_of (last_home g log) g log all) (entry.now ∷ [])) }
+            ++ filter_map (pending_at_last g log all) (entry.now ∷ [])) }
     {
         let Some(one) = self.pending_in(alloc, entry, committed)? else {
             return Ok(());
@@ -80,7 +80,7 @@ impl World<'_> {
     pub fn pending(&self, alloc: Global) -> Result<Vec<Pending>, NoMemory>
         requires { (g : Input) × (log : Log) × Represents self.now g log }
         ensures { IfOk result (λ found. (g : Input) (log : Log) → Represents self.now g log
-            → found.items ≡ pending_at standing_of (last_home g log) g log) }
+            → found.items ≡ all_at_last g log) }
     {
         let history = self.history().as_slice();
         let committed = committed_txns(alloc, history)?;

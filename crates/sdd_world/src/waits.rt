@@ -1,9 +1,9 @@
 //! Why a transaction is pending.
 ghost use Rattle.std.specs.Prelude.{◌≡◌, ◌≤◌, ◌++◌, ◌∷◌, [], ℕ, filter_map, length, IfOk, OnOk};
 ghost use Rattle.sdd_needs.specs.All.{D, Input, IsSiteOf, Log};
-ghost use Rattle.sdd_world.specs.Pending.{last_home, reason_of, wait_at, waits_of, why_of};
+ghost use Rattle.sdd_world.specs.LastHomes.{last_home, why_at_last};
+ghost use Rattle.sdd_world.specs.Pending.{wait_at, waits_of, why_of};
 ghost use Rattle.sdd_world.specs.Represents.{Represents};
-ghost use Rattle.sdd_world.specs.Standings.{standing_of};
 
 use crate::homes::home;
 use crate::world::World;
@@ -88,7 +88,7 @@ impl World<'_> {
     pub(crate) fn why(&self, alloc: Global, number: TxnNo) -> Result<Option<Why>, NoMemory>
         requires { (g : Input) × (log : Log) × Represents self.now g log }
         ensures { IfOk result (λ why. (g : Input) (log : Log) → Represents self.now g log
-            → why ≡ reason_of standing_of (last_home g log) g log number.0) }
+            → why ≡ why_at_last g log number.0) }
     {
         let at = self.last_home(number);
         let standing = self.standing(at, number);

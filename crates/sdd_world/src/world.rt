@@ -2,7 +2,7 @@ ghost use Rattle.std.specs.Prelude.{◌≡◌, ◌<◌, ◌≤◌, All, ◌++◌
 ghost use Rattle.sdd_needs.specs.All.{D, Deliver, Down, Event, Input, IsFirst, IsGood, IsLinkOf, IsPossible, IsSiteOf, Log, Lose, Msg, Repeat, Resend, Settle, Site, Submit, TakesAway, Tick, U, Up, all_links, calls_of, from_one, history, is_down, kept_from, mailbox_at, quiet, takes_part, with_event};
 ghost use Rattle.sdd_world.specs.declared.world.World.{World};
 ghost use Rattle.sdd_world.specs.Following.{MaySend, Followed, IsPast};
-ghost use Rattle.sdd_world.specs.Represents.{ahead_of, Arrives, Before, EndsBy, HandedOn, Handing, Happened, IsSettled, Keeping, Marked, Rising, Risen, Settles, Settling, Spooled, Represents};
+ghost use Rattle.sdd_world.specs.Represents.{position_of, Arrives, Before, EndsBy, HandedOn, Handing, Happened, IsSettled, Keeping, Marked, Rising, Risen, Settles, Settling, Spooled, Represents};
 
 use crate::ends::WorldEnd;
 use crate::homes::home_in;
@@ -54,7 +54,7 @@ impl<'a> World<'a> {
         ensures ok { IfOk result (λ _. (g : Input) (log : Log) (kept less : Site → List Msg)
             (rest : List Msg) → Handing self.old g log to kept
             → IsFirst g kept from to msg rest → TakesAway kept less from rest
-            → HandedOn self.new g to less (ahead_of g log) self.old.spool) }
+            → HandedOn self.new g to less (position_of g log) self.old.spool) }
         ensures limit { IsErrOf result WorldEnd.Limit → (g : Input) (log : Log)
             (kept : Site → List Msg) (rest : List Msg) → Handing self.old g log to kept
             → IsFirst g kept from to msg rest → EndsBy g }
@@ -69,7 +69,7 @@ impl<'a> World<'a> {
             × Handing self.old g log to (from_one from messages) }
         ensures ok { IfOk result (λ _. (g : Input) (log : Log) → IsLinkOf g from to
             → Handing self.old g log to (from_one from messages)
-            → HandedOn self.new g to (from_one from []) (ahead_of g log) self.old.spool) }
+            → HandedOn self.new g to (from_one from []) (position_of g log) self.old.spool) }
         ensures limit { IsErrOf result WorldEnd.Limit → (g : Input) (log : Log) → IsLinkOf g from to
             → Handing self.old g log to (from_one from messages) → EndsBy g }
     {

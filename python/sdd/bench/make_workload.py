@@ -22,6 +22,9 @@ largest    a catalogue at its limits: 64 relations of 16 columns, 256 fragments 
            fragments and write all; nothing runs
 classes    N transactions in the queues of 64 classes, with one fragment for each two of them
 readers    as `classes`, where each reads all fragments at 16 data modules, and asks its writers there
+undeclared N transactions of no class, each a change and a query, with 64 classes and 16 by 16 modules that copy all
+hubs       rings of three, four and six equalities over N rows, of which half lead to one value and half from it
+rings      two rings of six equalities over N rows with few values, which have too many answers
 
 Known applications, N drawn transactions each, in several designs (examples/ has a chapter on each):
 
@@ -34,6 +37,7 @@ import os
 from typing import Callable, NamedTuple
 
 from sdd.bench.applications import smallbank, tatp, tpcc, ycsb
+from sdd.bench.dear_joins import hubs, rings
 from sdd.bench.drawing import Random
 from sdd.bench.large_inputs import fragments, joins, largest, mesh, rows, texts
 from sdd.command import count, parser
@@ -147,6 +151,19 @@ def readers(n, _):
     return catalogue, lines + ["submit t%d" % k for k in range(n)] + ["settle"]
 
 
+def undeclared(n, _):
+    """All copies of both fragments take part in each transaction, with all classes."""
+    catalogue, copies = ["tms = 16", "dms = 16"] + relation("acct", ["id", "bal"]), "copies = %s" % list(range(1, 17))
+    for name, bound in (("low", "to = 9"), ("high", "from = 10")):
+        catalogue += ["[[fragment]]", 'name = "%s"' % name, 'relation = "acct"', bound, copies]
+    for c in range(64):
+        catalogue += ["[[class]]", 'name = "k%d"' % c, "tm = %d" % (c % 16 + 1), 'reads = [{fragment = "low", at = 1}]']
+    lines = []
+    for k in range(n):
+        lines += ["txn t%d T1" % k, "put acct %d 1" % k, "query 1.bal from acct", "done"]
+    return catalogue, lines + ["submit t%d" % k for k in range(n)] + ["settle"]
+
+
 class Kind(NamedTuple):
     make: Callable          # of N and SEED: the lines of a catalogue and those of a workload without its end
     usual: int              # N where none is given
@@ -168,6 +185,9 @@ MEASURED = {                # what tools/benchmark.py measures
     "largest": Kind(largest, 64, 64),
     "classes": Kind(classes, 2048, 2048),
     "readers": Kind(readers, 2048, 2048),
+    "undeclared": Kind(undeclared, 16, 2048),
+    "hubs": Kind(hubs, 4000, 65536),
+    "rings": Kind(rings, 560, 65536),
 }
 
 

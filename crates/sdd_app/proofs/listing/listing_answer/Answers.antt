@@ -1,45 +1,17 @@
-use Rattle.sdd_app.proofs.All.{BlamesCatalogue, ComesToListing, OverCatalogue, Prints, catalogue_named, err_from_is_err_and}
-use Rattle.sdd_shell.proofs.Verdicts.{explains_more, blamed, goes_on, one_ended}
-use Rattle.sdd_shell.proofs.AtFault.{at_more}
+use Rattle.sdd_app.proofs.All.{Tells, catalogue_refused, catalogue_told, catalogue_untold, err_from_is_err_and}
 use Rattle.sdd_app.proofs.listing.listing_answer.Goals as goal
 
-pub returns-in_err-catalogue-clause-answered : goal.returns-in_err-catalogue-clause-answered
-returns-in_err-catalogue-clause-answered g c = λ fs known.
+pub returns-in_err-catalogue : goal.returns-in_err-catalogue
+returns-in_err-catalogue g c =
     let p = err_from_is_err_and c.from_residual.result c.from_residual.ensures.1 in
-    let name = c.args.catalogue.now in
-    let lists = ComesToListing c.args.listing in
-    rw (p.1, p.2) (explains_more c.in_err-catalogue.field-0.0 (BlamesCatalogue (catalogue_named fs name))
-    (OverCatalogue fs name lists) (λ v is. blamed fs name lists v is) (c.in_err-catalogue.ensures.answered fs known))
+    rw (p.1, p.2) (catalogue_refused c.args.catalogue.now (Tells c.args.listing) _ _ c.in_err-catalogue.field-0.0 c.in_err-catalogue.ensures)
 
-pub returns-in_err-catalogue-clause-surely : goal.returns-in_err-catalogue-clause-surely
-returns-in_err-catalogue-clause-surely g c = λ free fs sure known some.
-    let p = err_from_is_err_and c.from_residual.result c.from_residual.ensures.1 in
-    let k = c.in_err-catalogue.ensures.surely free fs sure known some in
-    rw (p.1, p.2) (k.0, k.2)
-
-pub returns-clause-answered : goal.returns-clause-answered
-returns-clause-answered g c = λ fs known.
-    goes_on fs c.args.catalogue.now (ComesToListing c.args.listing) c.in_ok-catalogue.catalogue
-    (Prints c.of.result) (c.in_ok-catalogue.ensures.answered fs known) (rw c.of.ensures c.in_ok-print_listing.ensures)
-
-pub returns-clause-ended : goal.returns-clause-ended
-returns-clause-ended g c = let e = c.in_ok-catalogue.ensures.ended in one_ended _ _ _ _ _ e.0 e.1
-
-pub returns-in_err-print_listing-clause-surely : goal.returns-in_err-print_listing-clause-surely
-returns-in_err-print_listing-clause-surely g c = λ free fs sure known some.
+pub returns-in_err-print_listing : goal.returns-in_err-print_listing
+returns-in_err-print_listing g c =
     let p = err_from_is_err_and c.from_residual-in_err-print_listing.result c.from_residual-in_err-print_listing.ensures.1 in
-    let k = c.in_ok-catalogue.ensures.surely free fs sure known some in
-    rw (p.1, p.2) (λ is. absurd cc, k.2)
+    rw (p.1, p.2) (catalogue_untold c.args.catalogue.now (Tells c.args.listing) _ _ c.in_ok-catalogue.catalogue c.in_ok-catalogue.ensures)
 
-pub returns-clause-surely : goal.returns-clause-surely
-returns-clause-surely g c = λ free fs sure known some. let k = c.in_ok-catalogue.ensures.surely free fs sure known some in (tt, k.2)
-
-pub returns-in_err-catalogue-clause-at_fault : goal.returns-in_err-catalogue-clause-at_fault
-returns-in_err-catalogue-clause-at_fault g c =
-    let p = err_from_is_err_and c.from_residual.result c.from_residual.ensures.1 in
-    rw (p.1, p.2) (at_more c.in_err-catalogue.field-0.0 c.in_err-catalogue.ensures.at_fault (λ h. one_ended _ _ _ _ _ h.0 h.1) (λ no. no))
-
-pub returns-in_err-print_listing-clause-at_fault : goal.returns-in_err-print_listing-clause-at_fault
-returns-in_err-print_listing-clause-at_fault g c =
-    let p = err_from_is_err_and c.from_residual-in_err-print_listing.result c.from_residual-in_err-print_listing.ensures.1 in
-    rw (p.1, p.2) tt
+pub returns : goal.returns
+returns g c =
+    catalogue_told c.args.catalogue.now (Tells c.args.listing) _ _ c.in_ok-catalogue.catalogue c.of.result c.in_ok-catalogue.ensures
+    (rw c.of.ensures c.in_ok-print_listing.ensures)

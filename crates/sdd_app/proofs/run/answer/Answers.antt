@@ -12,16 +12,8 @@ returns-in-Some-clause-answers g c =
     let words = map string_bytes c.args.words.now in
     let form = form_of c.in-Some.command in
     let found = c.in-Some.ensures.found in
-    let e = c.carry_out_command.ensures in
     form_answers sdd1_call words form _ _ c.carry_out_command.result (found_form words form found.0 found.1) (λ none. none form found.0 found.1)
-    (record {
-      answered = e.answered;
-      ended = e.ended;
-      at_fault = e.at_fault;
-      fault = e.fault;
-      errors = e.errors;
-      surely = e.surely;
-    })
+    c.carry_out_command.ensures.answers
 
 pub returns-in-Some-clause-untouched : goal.returns-in-Some-clause-untouched
 returns-in-Some-clause-untouched g c = λ none.

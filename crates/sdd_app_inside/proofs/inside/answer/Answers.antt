@@ -1,11 +1,8 @@
-use Rattle.std.proofs.Common.{◌≡◌, ◌+◌, ℕ, arith, map, string_bytes, subst}
+use Rattle.std.proofs.Common.{map, string_bytes}
 use Rattle.sdd_shell.proofs.Calls.{form_answers, no_form_answers}
 use Rattle.sdd_app_inside.specs.Inside.{inside_call}
 use Rattle.sdd_app_inside.proofs.Shown.{found_names, names_of, no_names}
 use Rattle.sdd_app_inside.proofs.inside.answer.Goals as goal
-
-two : (free : ℕ) → free + 2 ≡ free + 1 + 1
-two free = omega arith
 
 pub returns-in-None-clause-answers : goal.returns-in-None-clause-answers
 returns-in-None-clause-answers g c =
@@ -18,16 +15,8 @@ returns-in-Some-clause-answers g c =
     let cat = c.in-Some.pair.catalogue.now in
     let work = c.in-Some.pair.workload.now in
     let found = c.in-Some.ensures.found in
-    let e = c.inside_answer.ensures in
     form_answers inside_call words (names_of cat work) _ _ c.inside_answer.result (found_names words cat work found) (λ none. none cat work found)
-    (record {
-      answered = e.answered;
-      ended = e.ended;
-      at_fault = e.at_fault;
-      fault = e.fault;
-      errors = e.errors;
-      surely = λ free fs room over there. e.surely free fs (subst (g.S.Shelf.sure c.args.shelf.now) (two free) room) over there;
-    })
+    c.inside_answer.ensures
 
 pub returns-in-Some-clause-untouched : goal.returns-in-Some-clause-untouched
 returns-in-Some-clause-untouched g c = λ none. absurd (none _ _ c.in-Some.ensures.found)

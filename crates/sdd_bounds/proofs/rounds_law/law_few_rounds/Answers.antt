@@ -1,4 +1,5 @@
 use Rattle.sdd_bounds.proofs.All.{ap, arith, sym, ◌∙◌}
+use Rattle.sdd_obligations.specs.logs.Marks.{events_ahead}
 use Rattle.sdd_bounds.proofs.FewRounds.{few_rounds}
 use Rattle.sdd_bounds.proofs.rounds_law.law_few_rounds.Goals as goal
 
@@ -7,4 +8,4 @@ returns-clause-between c = λ given later log lawful between. few_rounds given l
 
 pub returns-clause-in_settle : goal.returns-clause-in_settle
 returns-clause-in_settle c = λ given events later log lawful before after.
-    let few = few_rounds given later log lawful (after ∙ sym (ap (λ l. l.0) before)) in omega arith
+    let few = few_rounds given later log lawful (after ∙ sym (ap events_ahead before)) in omega arith

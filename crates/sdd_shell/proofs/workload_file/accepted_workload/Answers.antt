@@ -1,53 +1,17 @@
-use Rattle.sdd_shell.proofs.All.{BlamesWorkload, Explains, MAX_WORKLOAD_BYTES, Ok, ReadFault, Some, err_from_is_err_and, workload, workload_named, ◌≡◌}
-use Rattle.sdd_shell.proofs.FileReads.{workload_gives, accepted_short, on_ok_by, if_err_more, read_to_end, read_to_limit}
-use Rattle.sdd_shell.proofs.Verdicts.{explains_more}
-use Rattle.sdd_shell.proofs.AtFault.{workload_at, err_by, silent_at}
+use Rattle.sdd_shell.proofs.All.{err_from_is_err_and}
+use Rattle.sdd_shell.proofs.Accepted.{workload_not_read, workload_read}
 use Rattle.sdd_shell.proofs.workload_file.accepted_workload.Goals as goal
 
-pub returns-in_err-bytes-clause-answered : goal.returns-in_err-bytes-clause-answered
-returns-in_err-bytes-clause-answered g c = λ fs known.
+pub returns-in_err-bytes-clause-accepts : goal.returns-in_err-bytes-clause-accepts
+returns-in_err-bytes-clause-accepts g c =
     let p = err_from_is_err_and c.from_residual.result c.from_residual.ensures.1 in
-    rw (p.1, p.2) (explains_more c.in_err-bytes.field-0.0 (λ _. ⊥)
-    (BlamesWorkload (workload_named fs c.args.catalogue.now c.args.name.now)) (λ v no. absurd no) c.in_err-bytes.ensures.silent)
+    rw (p.1, p.2)
+    (workload_not_read c.args.catalogue.now c.args.name.now _ _ c.in_err-bytes.field-0.0 c.in_err-bytes.ensures.silent c.in_err-bytes.ensures.leaves)
 
-pub returns-in_err-bytes-clause-surely : goal.returns-in_err-bytes-clause-surely
-returns-in_err-bytes-clause-surely g c = λ free fs sure known some.
-    let p = err_from_is_err_and c.from_residual.result c.from_residual.ensures.1 in
-    rw (p.1, p.2) (c.in_err-bytes.ensures.surely free fs sure known some)
-
-pub returns-clause-answered : goal.returns-clause-answered
-returns-clause-answered g c = λ fs known.
-    workload_gives c.read_workload_bytes.result fs c.args.catalogue.now c.args.name.now c.as_slice.result.now
-    (rw c.as_slice.ensures.value (c.in_ok-bytes.ensures.read fs known)) c.read_workload_bytes.ensures.answered
-
-pub returns-clause-ended : goal.returns-clause-ended
-returns-clause-ended g c =
+pub returns-clause-accepts : goal.returns-clause-accepts
+returns-clause-accepts g c =
     let e = c.in_ok-bytes.ensures.ended in
-    let bytes = c.as_slice.result.now in
-    let cat = c.args.catalogue.now in
-    on_ok_by c.read_workload_bytes.result (λ w. workload cat bytes ≡ Ok w)
-    (λ s. Explains s (BlamesWorkload (Some (workload cat bytes)))) _ c.read_workload_bytes.ensures.answered
-    (λ w ok. (e.0, read_to_end _ _ _ _ _ c.args.name.now _ e.0 e.1 (rw (← c.as_slice.ensures.value) (accepted_short cat bytes w ok))))
-
-pub returns-clause-fault : goal.returns-clause-fault
-returns-clause-fault g c = if_err_more c.read_workload_bytes.result (λ s. s ≡ ReadFault → ⊥) _ c.read_workload_bytes.ensures.read (λ s no is. absurd (no is))
-
-pub returns-clause-surely : goal.returns-clause-surely
-returns-clause-surely g c = λ free fs sure known some.
-    let k = c.in_ok-bytes.ensures.surely free fs sure known some in
-    (c.read_workload_bytes.ensures.read, k.1, k.2)
-
-pub returns-in_err-bytes-clause-at_fault : goal.returns-in_err-bytes-clause-at_fault
-returns-in_err-bytes-clause-at_fault g c =
-    let p = err_from_is_err_and c.from_residual.result c.from_residual.ensures.1 in
-    rw (p.1, p.2) (silent_at _ _ c.in_err-bytes.field-0.0 c.in_err-bytes.ensures.silent)
-
-pub returns-clause-at_fault : goal.returns-clause-at_fault
-returns-clause-at_fault g c =
-    let e = c.in_ok-bytes.ensures.ended in
-    let bytes = c.as_slice.result.now in
-    let cat = c.args.catalogue.now in
-    let read = read_to_limit _ MAX_WORKLOAD_BYTES _ _ _ c.args.name.now _ e.0 e.1 in
-    err_by c.read_workload_bytes.result (λ w. workload cat bytes ≡ Ok w)
-    (λ s. Explains s (BlamesWorkload (Some (workload cat bytes)))) _ c.read_workload_bytes.ensures.answered
-    (λ s known. workload_at _ (Some (workload cat bytes)) s (e.0, read) known)
+    let judged = c.read_workload_bytes.ensures in
+    workload_read c.args.catalogue.now c.args.name.now c.as_slice.result.now _ _ _ e.0 c.read_workload_bytes.result
+    (λ fs known. rw c.as_slice.ensures.value (c.in_ok-bytes.ensures.read fs known)) (rw c.as_slice.ensures.value e.1) c.in_ok-bytes.ensures.leaves
+    judged.answered judged.errors judged.read

@@ -1,4 +1,4 @@
-use Rattle.sdd_world.proofs.All.{HandedOn, Handing, ahead_of, from_one, no_items, subst}
+use Rattle.sdd_world.proofs.All.{HandedOn, Handing, position_of, from_one, no_items, subst}
 use Rattle.sdd_world.proofs.Failing.{handed_on}
 use Rattle.sdd_world.proofs.Delivering.{handed_further, handed_none, handed_whole, one_first, one_takes}
 use Rattle.sdd_world.proofs.world.World.hand_all.Goals as goal
@@ -46,8 +46,8 @@ loop-msg-preserved c =
       so_far = λ given log l h.
           let k = c.loop-msg.invariant.so_far given log l h in
           handed_further
-          c.hand.new.self given c.args.to (from_one c.args.from rest) (ahead_of given log)
-          (ahead_of given k.more) c.args.self.now.spool c.loop-msg.self.spool k.ahead_is k.spool_is
+          c.hand.new.self given c.args.to (from_one c.args.from rest) (position_of given log)
+          (position_of given k.more) c.args.self.now.spool c.loop-msg.self.spool k.position_is k.spool_is
           (c.in_ok-hand.ensures.ok given k.more (from_one c.args.from q) (from_one c.args.from rest) rest
           k.handing (one_first
           given c.args.from c.args.to q rest c.in-Some.msg c.in-Some.ensures.items l)
@@ -66,5 +66,5 @@ returns-in_err-hand-clause-limit c = λ e given log l h.
 
 pub returns-clause-ok : goal.returns-clause-ok
 returns-clause-ok c = λ given log l h.
-    subst (λ q. HandedOn c.loop-msg.self given c.args.to (from_one c.args.from q) (ahead_of given log) c.args.self.now.spool)
+    subst (λ q. HandedOn c.loop-msg.self given c.args.to (from_one c.args.from q) (position_of given log) c.args.self.now.spool)
     (no_items c.loop-msg.queue.items c.loop-msg.queue.len c.loop-msg.queue.ok.0 c.in_default.ensures.cases.0) (c.loop-msg.invariant.so_far given log l h)

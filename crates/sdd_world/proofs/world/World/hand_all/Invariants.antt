@@ -1,4 +1,4 @@
-use Rattle.sdd_world.proofs.All.{HandedOn, Handing, Input, IsLinkOf, Log, ahead_of, from_one, length}
+use Rattle.sdd_world.proofs.All.{HandedOn, Handing, Input, IsLinkOf, Log, position_of, from_one, length}
 use Rattle.sdd_world.proofs.world.World.hand_all.Given as goal
 
 abbrev pub invariant-loop-msg : goal.invariant-loop-msg
@@ -8,7 +8,7 @@ invariant-loop-msg l = record {
       → Handing l.fn.self given log
       l.to (from_one l.from l.fn.messages)
       → HandedOn l.self given l.to
-      (from_one l.from l.queue.items) (ahead_of given log) l.fn.self.spool;
+      (from_one l.from l.queue.items) (position_of given log) l.fn.self.spool;
 }
 
 abbrev pub decreases-loop-msg : goal.decreases-loop-msg

@@ -1,11 +1,11 @@
-use Rattle.sdd_world.proofs.All.{AreCommitted, history, last_home, pending_by, standing_of, subst, ◌∙◌}
+use Rattle.sdd_world.proofs.All.{AreCommitted, history, pending_at_last, subst, ◌∙◌}
 use Rattle.sdd_world.proofs.Lists.{chosen_more}
 use Rattle.sdd_world.proofs.world.World.pending.Goals as goal
 
 pub loop-entry-preserved : goal.loop-entry-preserved
 loop-entry-preserved c = λ given log s.
     let is = c.as_slice-history.ensures ∙ c.history.ensures given log s.calm in
-    chosen_more (pending_by standing_of (last_home given log) given log (history log)) c.as_slice-history.result.now
+    chosen_more (pending_at_last given log (history log)) c.as_slice-history.result.now
     c.loop-entry.entry-index c.entry-item.result c.loop-entry.found.items c.add_pending.new.found.items
     c.loop-entry-test.true c.entry-item.is
     (c.in_ok-add_pending.ensures given log (history log) s (subst (AreCommitted c.in_ok-committed.committed) is c.in_ok-committed.ensures))

@@ -1,4 +1,4 @@
-use Rattle.sdd_world.proofs.All.{IsSiteOf, ap, standing_of, status_at, subst, sym, why_of, ◌∙◌}
+use Rattle.sdd_world.proofs.All.{IsSiteOf, ap, status_at, subst, sym, why_of, ◌∙◌}
 use Rattle.sdd_world.proofs.HomesExist.{last_home_there}
 use Rattle.sdd_world.proofs.Results.{of_ok}
 use Rattle.sdd_world.proofs.world.World.why.Goals as goal
@@ -18,4 +18,4 @@ returns c =
     let at = c.last_home-at.ensures given log s in
     let here = subst (IsSiteOf given) (sym at) (last_home_there given log c.args.number.0 s.calm.parts.sound) in
     reported given log s ∙ ap (why_of given log) (c.standing-standing.ensures given log here s)
-    ∙ ap (λ z. why_of given log (status_at standing_of given log z c.args.number.0)) at)
+    ∙ ap (λ z. why_of given log (status_at given log z c.args.number.0)) at)

@@ -1,0 +1,15 @@
+pub mod DigitsPass
+pub mod Ends
+pub mod EventRead
+pub mod FoundRead
+pub mod JsonPass
+pub mod LineRead
+pub mod LinesRead
+pub mod MembersRead
+pub mod MessagesPass
+pub mod ModulesRead
+pub mod NamesPass
+pub mod Passing
+pub mod PutsRead
+pub mod StandingsPass
+pub mod StringsPass
