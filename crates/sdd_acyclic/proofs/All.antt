@@ -28,10 +28,10 @@ pub use Rattle.sdd_graph.specs.declared.edge.Edge.TheVariants.{Diagonal, Horizon
 pub use Rattle.sdd_order.proofs.Members.{Contains-filter, Contains-filter_map, Contains-flat_map, Contains-map, Contains-range, passes_member, place_of}
 pub use Rattle.sdd_order.proofs.Paths.{path_as, path_join}
 pub use Rattle.sdd_order.specs.Paths.{IsOrderly, IsPath}
-pub use Rattle.sdd_protocol.proofs.Laws.{one_protocol}
+pub use Rattle.sdd_protocol.proofs.ConditionOn.{protocol_known}
 pub use Rattle.sdd_protocol.proofs.MadeTable.{is_table}
 pub use Rattle.sdd_protocol.proofs.Tables.{all_at, blocks_of, first_block-vertical, vertical_block-lists}
-pub use Rattle.sdd_protocol.specs.Conditions.{asked_by, asked_in, asked_on, cond_for, cond_of, condition_on, is_asked, is_read_at}
+pub use Rattle.sdd_protocol.specs.Conditions.{asked_by, asked_in, cond_for, cond_of, condition_on, condition_under, is_asked, is_read_at, protocol_between, time_asked}
 pub use Rattle.sdd_protocol.specs.Entries.{entry_by, protocol_by}
 pub use Rattle.sdd_protocol.specs.Protocols.{IsTable, diagonal_protocol, protocol_in, same_protocol, vertical_block}
 pub use Rattle.sdd_protocol.specs.declared.entry.Entry.{Entry}
@@ -46,5 +46,5 @@ pub use Rattle.std.proofs.lemmas.Map.Keys.{IsDistinct-cons}
 pub use Rattle.std.proofs.lemmas.Map.Steps.{length-le_from_distinct_below}
 pub use Rattle.std.proofs.lemmas.Option.{same_Some, slice_get-get_or, slice_get-map, slice_get_within}
 pub use Rattle.std.specs.List.{AllByRecursion, cons_option, list_any, range_with_len}
-pub use Rattle.std.specs.Option.{option_eq, option_or}
+pub use Rattle.std.specs.Option.{option_and_then, option_eq}
 pub use Rattle.std.proofs.lemmas.Bool.Decides.{nat_tests}

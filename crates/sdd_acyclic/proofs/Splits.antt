@@ -1,39 +1,13 @@
 -- What a reader sees of the writers of a block: those below its time.
-use Rattle.sdd_acyclic.proofs.All.{Bool, Catalogue, ClassNo, Cond, Contains, Contains-filter_map, Contains-map, Diagonal, Edge, Entry, FitsSystem, FragNo, IsClassOf, IsDiagonal, IsTable, List, Meets, None, Option, P2, P3, Protocol, Some, System, Waits, [], all_at, and_from, and_parts, ap, arith, asked_by, asked_in, asked_on, blocks_of, cases_Bool, class_no, cond, cond_for, cond_of, condition_on, conflict_graph, cons_option, contains, diagonal_protocol, eq-eqb, eqb-true, false, filter_map, first_block-vertical, frag_no, get_or, get_or-map, is_asked, is_read_at, length, length-append, length-map, length-map-range_with_len, list_any, map, nat_tests, numbers_to, one_protocol, option_eq, option_map, option_or, passes_member, protocol_in, refl, same_Some, same_protocol, slice_get, slice_get-get_or, slice_get-map, slice_get_within, slice_index, subst, suc, sym, time_in, true, vertical_block, vertical_block-lists, zero, ℕ, ◌-◌, ◌<◌, ◌==◌, ◌||◌, ◌↔◌, ◌∙◌, ◌∷◌, ◌≡◌, ◌≢◌, ◌≤◌}
+use Rattle.sdd_acyclic.proofs.All.{Bool, Catalogue, Cond, Contains, Contains-filter_map, Contains-map, Diagonal, Edge, Entry, FitsSystem, FragNo, IsClassOf, IsDiagonal, IsTable, List, Meets, Option, P2, P3, Protocol, Some, System, Waits, [], all_at, and_from, ap, arith, asked_by, asked_in, blocks_of, class_no, cond, cond_for, cond_of, condition_on, condition_under, conflict_graph, contains, diagonal_protocol, eq-eqb, false, first_block-vertical, frag_no, get_or, get_or-map, is_asked, is_read_at, length, length-append, length-map, length-map-range_with_len, list_any, map, nat_tests, numbers_to, option_and_then, option_eq, option_map, passes_member, protocol_between, protocol_in, protocol_known, refl, same_Some, same_protocol, slice_get, slice_get-get_or, slice_get-map, slice_get_within, slice_index, subst, sym, time_asked, time_in, true, vertical_block, vertical_block-lists, ℕ, ◌-◌, ◌<◌, ◌==◌, ◌||◌, ◌↔◌, ◌∙◌, ◌∷◌, ◌≡◌, ◌≢◌, ◌≤◌}
 use Rattle.sdd_acyclic.proofs.Covers.{class_is}
 use Rattle.sdd_protocol.proofs.Tables.{edges_of}
-
--- an edge is a diagonal between the two classes
-pub record IsBetween (i j : ℕ) (e : Edge) : Type 0 where
-  pub reader : ClassNo
-  pub writer : ClassNo
-  pub fragment : FragNo
-  pub is : e ≡ Diagonal reader writer fragment
-  pub reads : reader.0 ≡ i
-  pub writes : writer.0 ≡ j
 
 -- an entry asks for its fragment where it is a diagonal between the classes, with the protocol
 asked_here : (protocol : Protocol) (test : ℕ → Bool) (i j f : ℕ) (x : Entry)
     → x.edge ≡ Diagonal (class_no i) (class_no j) (frag_no f) → same_protocol x.protocol protocol ≡ true
     → test f ≡ true → asked_in protocol test i j x ≡ Some (frag_no f)
 asked_here protocol test i j f x e p t = grind (arith, and_from, eq-eqb)
-
--- an entry that isn't one asks for nothing
-not_asked_on : (test : ℕ → Bool) (i j : ℕ) (e : Edge) → (IsBetween i j e → ⊥) → asked_on test i j e ≡ None
-not_asked_on test i j e n = grind (arith, cases_Bool, and_parts, eqb-true)
-
-is_third : (protocol : Protocol) → same_protocol protocol P3 ≡ true → protocol ≡ P3
-is_third protocol e = grind arith
-
-not_asked_here : (test : ℕ → Bool) (i j : ℕ) (x : Entry) → (IsBetween i j x.edge → x.protocol ≡ P3 → ⊥)
-    → asked_in P3 test i j x ≡ None
-not_asked_here test i j x n = grind (arith, cases_Bool, not_asked_on, is_third)
-
-filter_map_none : {X Y : Type 0} (f : X → Option Y) (xs : List X)
-    → ((k : ℕ) (x : X) → slice_get xs k ≡ Some x → f x ≡ None) → filter_map f xs ≡ []
-filter_map_none f [] h = refl
-filter_map_none f (x ∷ xs) h =
-    ap (λ o. cons_option o (filter_map f xs)) (h zero x refl) ∙ filter_map_none f xs (λ k. h (suc k))
 
 -- a condition for fragments is there where there are some
 cond_there : (j t : ℕ) (frags : List FragNo) (f : FragNo) → Contains frags f
@@ -107,10 +81,17 @@ module _ (era : Catalogue) (entries : List Entry) (table : IsTable era entries) 
       Contains-filter_map (asked_in protocol test i j) entries d.entry (frag_no f) (k, l, (grind (arith, nat_tests, same_Some, get_or, slice_get-get_or)))
       (asked_here protocol test i j f d.entry d.edge p t)
 
-  -- all diagonals between two classes have one protocol: where one has P2, none asks by P3
-  none_by_third : (i j f k : ℕ) (test : ℕ → Bool) (d : IsDiagonalEntry i j f k) → d.entry.protocol ≡ P2
-      → asked_by P3 test entries i j ≡ []
-  none_by_third i j f k test d p = grind (arith, filter_map_none, not_asked_here, one_protocol)
+  -- so does the condition, up to the time of the protocol between the classes
+  asks_by : (i j f k own p2 : ℕ) (test : ℕ → Bool) (protocol : Protocol) (t : ℕ) (d : IsDiagonalEntry i j f k)
+      → protocol_between entries i j ≡ Some protocol → same_protocol d.entry.protocol protocol ≡ true
+      → time_asked own p2 protocol ≡ Some t → test f ≡ true → Asks (condition_on test entries i own p2 j) j t f
+  asks_by i j f k own p2 test protocol t d between same up passes =
+      let frags = asked_by protocol test entries i j in
+      let m = in_asked i j f k test protocol d same passes in
+      asks_for (condition_on test entries i own p2 j) j t frags f
+      (ap (λ o. option_and_then (condition_under test entries i own p2 j) o) between
+      ∙ ap (λ o. option_and_then (λ u. cond_for j u frags) o) up
+      ∙ cond_there j t frags (frag_no f) m) m
 
   -- the condition of a reader on the writers of a class with which it shares a diagonal in a block
   condition_there : (i j f k own p2 : ℕ) (test : ℕ → Bool) → IsClassOf era i → IsDiagonal (conflict_graph era) k i j f
@@ -118,19 +99,12 @@ module _ (era : Catalogue) (entries : List Entry) (table : IsTable era entries) 
       (cond (slice_index (blocks_of entries) (i - 1) == slice_index (blocks_of entries) k) own p2) f
   condition_there i j f k own p2 test c e z t =
       let d = protocol_is i j f k c e z in
-      let thirds = asked_by P3 test entries i j in
-      let seconds = asked_by P2 test entries i j in
+      let between : protocol_between entries i j ≡ Some d.entry.protocol = protocol_known era entries k d.entry i j (frag_no f) table d.there d.edge in
       let whole : Option Cond = condition_on test entries i own p2 j in
       elim (slice_index (blocks_of entries) (i - 1) == slice_index (blocks_of entries) k) as
       (λ b. d.entry.protocol ≡ cond b P3 P2 → Asks whole j (cond b own p2) f) [
-        | true ↦ λ p.
-            let m = in_asked i j f k test P3 d (ap (λ w. same_protocol w P3) p) t in
-            asks_for whole j own thirds f
-            (ap (λ o. option_or o (cond_for j p2 seconds)) (cond_there j own thirds (frag_no f) m)) m
-        | false ↦ λ p.
-            let m = in_asked i j f k test P2 d (ap (λ w. same_protocol w P2) p) t in
-            asks_for whole j p2 seconds f
-            (ap (λ l. option_or (cond_for j own l) (cond_for j p2 seconds)) (none_by_third i j f k test d p) ∙ cond_there j p2 seconds (frag_no f) m) m
+        | true ↦ λ p. asks_by i j f k own p2 test P3 own d (between ∙ ap (λ w. Some w) p) (ap (λ w. same_protocol w P3) p) refl t
+        | false ↦ λ p. asks_by i j f k own p2 test P2 p2 d (between ∙ ap (λ w. Some w) p) (ap (λ w. same_protocol w P2) p) refl t
       ] d.protocol
 
   module _ (cat : Catalogue) {T : Type 0} (S : System T) (fits : FitsSystem era S) (frags : T → List FragNo) (meets : Meets cat entries S frags) where

@@ -3,7 +3,7 @@ pub use Rattle.sdd_attempt.specs.Acts.{attempt_due, commit_act, conditions_at, m
 pub use Rattle.sdd_attempt.specs.Attempts.{Attempt, active, active_after, active_handed, active_sent, asks_rows, started}
 pub use Rattle.sdd_attempt.specs.Clocks.{clock, pushed_by, ticked_by}
 pub use Rattle.sdd_attempt.specs.Counts.{count_in, is_other, numbered}
-pub use Rattle.sdd_attempt.specs.Exchange.{Asking, Exchange, Fetching, Over, Phase, Shipping, after_hand, after_send, answered, asking_of, askings, begins, count_of, counted, counts_for, fetches, fetches_from, first_phase, first_send, goes_on, is_over, lacking, module_read, move_at, phase_ends, reduces, send_due, ships, to_all, with_use, without}
+pub use Rattle.sdd_attempt.specs.Exchange.{Asking, Exchange, Fetching, Over, Phase, Shipping, after_hand, after_send, answered, asking_of, askings, begins, count_of, counted, counts_for, fetches, fetches_from, first_phase, first_send, goes_on, is_over, module_read, move_at, on_answer, phase_ends, reduces, send_due, ships, to_all, with_use, without}
 pub use Rattle.sdd_attempt.specs.Fits.{AnswersRead, Awaits, AwaitsAt, FitsRows, FitsRowsOf, ServesIfLast, at_site, fetches_use, handed, is_read, is_shipping, is_verdict, reduces_use, sent}
 pub use Rattle.sdd_attempt.specs.Lines.{AreAwaitedFrom, AreDistinct, AreTried, IsAwaited, IsLine, IsRunning, Line, Running, RunsFirst, ServesAt, active_of, attempt_of, commit_next, handed_by, line_done, line_of, line_step, send_next, start_next, step_by}
 pub use Rattle.sdd_attempt.specs.Modules.{dm_with_use, module_of}

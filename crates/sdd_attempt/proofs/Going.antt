@@ -1,5 +1,5 @@
 -- The moves of an exchange: which comes next, and that what is counted only grows.
-use Rattle.sdd_attempt.proofs.All.{All-tail, AreSmall, Asking, Bool, ClassNo, Exchange, IsSmallQuery, List, Move, None, Option, Phase, Reduction, Some, Step, Ts, Value, Values, [], after_hand, answered, ap, arith, counts_for, drop, fetches, get_or, goes_on, if◌then◌else◌, lacking, length, move_at, move_of, nat_tests, next_move, option_map, phase_ends, reduces, subst, sym, true, with_values, without, ℕ, ◌&&◌, ◌++◌, ◌+◌, ◌<◌, ◌==◌, ◌∙◌, ◌∷◌, ◌≡◌, ◌≤◌}
+use Rattle.sdd_attempt.proofs.All.{All-tail, AreSmall, Asking, Bool, ClassNo, Exchange, IsSmallQuery, List, Move, None, Option, Phase, Reduction, Some, Step, Ts, Value, Values, [], after_hand, answered, ap, arith, counts_for, drop, fetches, get_or, goes_on, if◌then◌else◌, length, move_at, move_of, nat_tests, next_move, on_answer, option_map, phase_ends, reduces, subst, sym, true, with_values, without, ℕ, ◌&&◌, ◌++◌, ◌+◌, ◌<◌, ◌==◌, ◌∙◌, ◌∷◌, ◌≡◌, ◌≤◌}
 
 no_move : {A B : Type 0} (f : A → B) (o : Option A) → None ≡ option_map f o → o ≡ None
 no_move f o e = grind arith
@@ -80,11 +80,11 @@ goes_grows ts c x (q ∷ rest) steps = grind (arith, goes_grows ts c x rest [])
 ends_grows : (ts c : ℕ) (x : Exchange) (p : Phase) → x.values ≤ (phase_ends ts c x p).values
 ends_grows ts c x p = grind (arith, reduces_grows, goes_grows)
 
-lacking_grows : (ts c : ℕ) (x : Exchange) (dms : List ℕ) → x.values ≤ (lacking ts c x dms).values
-lacking_grows ts c x dms = grind (arith, ends_grows)
+on_answer_grows : (ts c : ℕ) (x : Exchange) (dms : List ℕ) → x.values ≤ (on_answer ts c x dms).values
+on_answer_grows ts c x dms = grind (arith, ends_grows)
 
 pub answered_grows : (ts c d : ℕ) (x : Exchange) → x.values ≤ (answered ts c d x).values
-answered_grows ts c d x = lacking_grows ts c x (without x.lacks d)
+answered_grows ts c d x = on_answer_grows ts c x (without x.lacks d)
 
 -- values that come have room where what follows from them has
 pub values_fit : (ts c d u n : ℕ) (t : Ts) (k : ClassNo) (vs : List Value) (x : Exchange) (b : Bool) → b ≡ ((t.0 == ts) && (k.0 == c)) → b ≡ true

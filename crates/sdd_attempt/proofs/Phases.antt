@@ -1,6 +1,6 @@
 -- What an answer makes of an exchange: its modules stay, what is to be sent asks for rows of the attempt, and it is over
 -- only once all rows are shipped.
-use Rattle.sdd_attempt.proofs.All.{AllByRecursion, Asking, Exchange, Fetch, List, Move, Msg, None, Phase, Reduce, Row, Ship, Some, Step, Value, [], after_hand, and_parts, arith, asks_rows, awaits_ready, class_no, contains, counts_for, eq-eqb, eqb-true, false, fetches, fetches_from, fetches_use, goes_on, is_over, is_reading, is_shipping, lacking, map, move_at, ne_eqb, next_move, phase_ends, reduces, reduces_use, refl, ships, time_at, to_all, true, with_use, without, ℕ, ◌&&◌, ◌++◌, ◌+◌, ◌==◌, ◌∷◌, ◌≡◌, ◌≢◌}
+use Rattle.sdd_attempt.proofs.All.{AllByRecursion, Asking, Exchange, Fetch, List, Move, Msg, None, Phase, Reduce, Row, Ship, Some, Step, Value, [], after_hand, and_parts, arith, asks_rows, awaits_ready, class_no, contains, counts_for, eq-eqb, eqb-true, false, fetches, fetches_from, fetches_use, goes_on, is_over, is_reading, is_shipping, map, move_at, ne_eqb, next_move, on_answer, phase_ends, reduces, reduces_use, refl, ships, time_at, to_all, true, with_use, without, ℕ, ◌&&◌, ◌++◌, ◌+◌, ◌==◌, ◌∷◌, ◌≡◌, ◌≢◌}
 
 -- a property of what comes of an exchange, by the ways in which it goes on
 
@@ -34,8 +34,8 @@ goes_modules ts c x (q ∷ rest) done = grind (arith, goes_modules ts c x rest [
 pub ends_modules : (ts c : ℕ) (x : Exchange) (p : Phase) → (phase_ends ts c x p).modules ≡ x.modules
 ends_modules ts c x p = grind (arith, goes_modules)
 
-pub lacking_modules : (ts c : ℕ) (x : Exchange) (dms : List ℕ) → (lacking ts c x dms).modules ≡ x.modules
-lacking_modules ts c x dms = grind (arith, ends_modules)
+pub on_answer_modules : (ts c : ℕ) (x : Exchange) (dms : List ℕ) → (on_answer ts c x dms).modules ≡ x.modules
+on_answer_modules ts c x dms = grind (arith, ends_modules)
 
 -- an exchange with other counts, values or rows
 
@@ -49,7 +49,7 @@ abbrev pub with_rows : Exchange → List (ℕ × Row) → ℕ → Exchange
 with_rows x found n = record x { found = found; rows = n }
 
 pub modules_stay : (ts c d : ℕ) (m : Msg) (x : Exchange) → (after_hand ts c d m x).modules ≡ x.modules
-modules_stay ts c d m x = grind (arith, lacking_modules)
+modules_stay ts c d m x = grind (arith, on_answer_modules)
 
 -- what is to be sent
 
@@ -80,11 +80,11 @@ goes_ask ts c x qs done =
 ends_ask : (ts c : ℕ) (x : Exchange) → AllAsk ts c x.to_send → (p : Phase) → AllAsk ts c (phase_ends ts c x p).to_send
 ends_ask ts c x h p = grind (arith, reduces_ask, goes_ask)
 
-lacking_ask : (ts c : ℕ) (x : Exchange) → AllAsk ts c x.to_send → (dms : List ℕ) → AllAsk ts c (lacking ts c x dms).to_send
-lacking_ask ts c x h dms = grind (arith, ends_ask)
+on_answer_ask : (ts c : ℕ) (x : Exchange) → AllAsk ts c x.to_send → (dms : List ℕ) → AllAsk ts c (on_answer ts c x dms).to_send
+on_answer_ask ts c x h dms = grind (arith, ends_ask)
 
 pub asks_stay : (ts c d : ℕ) (m : Msg) (x : Exchange) → AllAsk ts c x.to_send → AllAsk ts c (after_hand ts c d m x).to_send
-asks_stay ts c d m x h = grind (arith, lacking_ask)
+asks_stay ts c d m x h = grind (arith, on_answer_ask)
 
 -- phases
 
@@ -94,13 +94,13 @@ goes_not_over ts c x (q ∷ rest) done = grind (arith, goes_not_over ts c x rest
 
 -- the answers of phases before the last don't make an exchange over
 
-pub ready_not_over : (ts c : ℕ) (x : Exchange) (dms : List ℕ) → is_reading x.phase ≡ true → is_over (lacking ts c x dms).phase ≡ false
+pub ready_not_over : (ts c : ℕ) (x : Exchange) (dms : List ℕ) → is_reading x.phase ≡ true → is_over (on_answer ts c x dms).phase ≡ false
 ready_not_over ts c x dms e = grind (arith, goes_not_over)
 
-pub values_not_over : (ts c u : ℕ) (x : Exchange) (dms : List ℕ) → fetches_use u x.phase ≡ true → is_over (lacking ts c x dms).phase ≡ false
+pub values_not_over : (ts c u : ℕ) (x : Exchange) (dms : List ℕ) → fetches_use u x.phase ≡ true → is_over (on_answer ts c x dms).phase ≡ false
 values_not_over ts c u x dms e = grind (arith, goes_not_over)
 
-pub reduced_not_over : (ts c u : ℕ) (x : Exchange) (dms : List ℕ) → reduces_use u x.phase ≡ true → is_over (lacking ts c x dms).phase ≡ false
+pub reduced_not_over : (ts c u : ℕ) (x : Exchange) (dms : List ℕ) → reduces_use u x.phase ≡ true → is_over (on_answer ts c x dms).phase ≡ false
 reduced_not_over ts c u x dms e = grind (arith, goes_not_over)
 
 -- such an answer comes where no READY is awaited
@@ -120,10 +120,10 @@ still_there : (dms : List ℕ) (d e : ℕ) → e ≢ d → contains dms e ≡ tr
 still_there [] d e apart h = h
 still_there (x ∷ dms) d e apart h = grind (arith, contains, without, ne_eqb, eqb-true, (still_there dms d e apart))
 
-lacking_awaits : (ts c : ℕ) (x : Exchange) (dms : List ℕ) (e : ℕ) → is_reading x.phase ≡ true → contains dms e ≡ true
-    → awaits_ready (lacking ts c x dms) e ≡ true
-lacking_awaits ts c x dms e r h = grind arith
+on_answer_awaits : (ts c : ℕ) (x : Exchange) (dms : List ℕ) (e : ℕ) → is_reading x.phase ≡ true → contains dms e ≡ true
+    → awaits_ready (on_answer ts c x dms) e ≡ true
+on_answer_awaits ts c x dms e r h = grind arith
 
 pub others_awaited : (ts c d e : ℕ) (x y : Exchange) → y.phase ≡ x.phase → e ≢ d → awaits_ready x e ≡ true
-    → awaits_ready (lacking ts c y (without x.lacks d)) e ≡ true
-others_awaited ts c d e x y same apart h = grind (arith, and_parts, lacking_awaits, still_there)
+    → awaits_ready (on_answer ts c y (without x.lacks d)) e ≡ true
+others_awaited ts c d e x y same apart h = grind (arith, and_parts, on_answer_awaits, still_there)

@@ -1,5 +1,5 @@
 -- An exchange has room from its beginning to its end.
-use Rattle.sdd_attempt.proofs.All.{All, All-head, All-nil, All-tail, AreAwaited, AreSmall, Asking, Bool, CarriesFew, Exchange, Fetching, HasRoom, HasUnion, IsSmallQuery, IsSmallStatement, IsSmallText, List, Move, Msg, None, Option, Over, Phase, Row, Shipping, Site, Some, Step, Stmt, Txn, Value, [], after_hand, after_send, answered, arith, asking_of, askings, begins, cond, contains, counted, counts_for, fetches, fetches_from, few_undone, fewer_left, first_phase, for_move, for_phase, for_reduce, goes_on, if◌then◌else◌, insert_key, is_fetching, lacking, length, length-append, most_values, move_at, moves_left, mul-le, mul-le-mul_right, nat_tests, next_move, not, phase_ends, reduces, refl, subst, suc-mul, true, uses_in, value_cmp, with_use, with_values, without, ℕ, ◌&&◌, ◌*◌, ◌++◌, ◌+◌, ◌<◌, ◌==◌, ◌^◌, ◌∷◌, ◌≡◌, ◌≤◌}
+use Rattle.sdd_attempt.proofs.All.{All, All-head, All-nil, All-tail, AreAwaited, AreSmall, Asking, Bool, CarriesFew, Exchange, Fetching, HasRoom, HasUnion, IsSmallQuery, IsSmallStatement, IsSmallText, List, Move, Msg, None, Option, Over, Phase, Row, Shipping, Site, Some, Step, Stmt, Txn, Value, [], after_hand, after_send, answered, arith, asking_of, askings, begins, cond, contains, counted, counts_for, fetches, fetches_from, few_undone, fewer_left, first_phase, for_move, for_phase, for_reduce, goes_on, if◌then◌else◌, insert_key, is_fetching, length, length-append, most_values, move_at, moves_left, mul-le, mul-le-mul_right, nat_tests, next_move, not, on_answer, phase_ends, reduces, refl, subst, suc-mul, true, uses_in, value_cmp, with_use, with_values, without, ℕ, ◌&&◌, ◌*◌, ◌++◌, ◌+◌, ◌<◌, ◌==◌, ◌^◌, ◌∷◌, ◌≡◌, ◌≤◌}
 use Rattle.sdd_attempt.proofs.Going.{goes_by}
 use Rattle.sdd_attempt.proofs.Lists.{few_filtered, few_picked, inserted_few}
 use Rattle.sdd_module.specs.wire.declared.msg.Msg.TheVariants as msgs
@@ -81,8 +81,8 @@ ends_room ts c x Shipping e room = record { small = room.small; values = omega (
 ends_room ts c x Over e room = room
 ends_room ts c x _ e room = goes_room ts c x x.left x.done room.small room.rows (omega (arith, room.values))
 
-lacking_room : (ts c : ℕ) (x : Exchange) (dms : List ℕ) → HasRoom (record x { lacks = dms }) → HasRoom (lacking ts c x dms)
-lacking_room ts c x dms room = grind (arith, ends_room)
+on_answer_room : (ts c : ℕ) (x : Exchange) (dms : List ℕ) → HasRoom (record x { lacks = dms }) → HasRoom (on_answer ts c x dms)
+on_answer_room ts c x dms room = grind (arith, ends_room)
 
 -- answers
 
@@ -94,7 +94,7 @@ union_fewer : (union few lacks modules : ℕ) (p : Phase) → few ≤ lacks → 
 union_fewer union few lacks modules p le h = grind arith
 
 answered_room : (ts c d : ℕ) (x : Exchange) → HasRoom x → HasRoom (answered ts c d x)
-answered_room ts c d x room = grind (arith, few_without, lacking_room, phase_fewer, union_fewer)
+answered_room ts c d x room = grind (arith, few_without, on_answer_room, phase_fewer, union_fewer)
 
 -- the values that come have the room of the answer that lacked
 values_by : (values few lacks modules : ℕ) (p : Phase) → is_fetching p ≡ true → few < lacks → values < 2 ^ 64
@@ -107,7 +107,7 @@ united_by union all values few lacks modules p e less small le h = grind arith
 
 values_room : (ts c d : ℕ) (vs : List Value) (x : Exchange) → HasRoom x → is_fetching x.phase ≡ true → contains x.lacks d ≡ true → length vs < 2 ^ 64
     → HasRoom (answered ts c d (record x { union = with_values x.union vs; values = x.values + length vs }))
-values_room ts c d vs x room fetching lacks few = grind (arith, fewer_without, lacking_room, values_by, united_by, few_united)
+values_room ts c d vs x room fetching lacks few = grind (arith, fewer_without, on_answer_room, values_by, united_by, few_united)
 
 rows_room : (ts c d : ℕ) (rows : List (ℕ × Row)) (x : Exchange) → HasRoom x
     → HasRoom (answered ts c d (record x { found = x.found ++ rows; rows = x.rows + length rows }))

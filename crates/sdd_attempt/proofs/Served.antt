@@ -1,5 +1,5 @@
 -- An attempt that may commit has rows that serve its database: only the last ROWS makes it so, or it has no module.
-use Rattle.sdd_attempt.proofs.All.{AnswersRead, Attempt, Bases, Bool, Catalogue, D, Database, DmNo, Exchange, FitsAnswer, FitsRows, FitsRowsOf, IsAsking, IsAskingAt, IsServed, List, Log, Msg, Phase, Ready, Reduced, Row, Rows, Serves, ServesIfLast, Setting, Site, Some, Txn, Values, [], active, active_handed, after_hand, and_parts, answered, arith, cond, counted, eqb-true, false, fetches_use, handed, is_over, is_reading, is_shipping, lacking, length, nat_tests, reduces_use, sent, subst, true, with_values, without, ℕ, ◌&&◌, ◌++◌, ◌+◌, ◌==◌, ◌∷◌, ◌≡◌}
+use Rattle.sdd_attempt.proofs.All.{AnswersRead, Attempt, Bases, Bool, Catalogue, D, Database, DmNo, Exchange, FitsAnswer, FitsRows, FitsRowsOf, IsAsking, IsAskingAt, IsServed, List, Log, Msg, Phase, Ready, Reduced, Row, Rows, Serves, ServesIfLast, Setting, Site, Some, Txn, Values, [], active, active_handed, after_hand, and_parts, answered, arith, cond, counted, eqb-true, false, fetches_use, handed, is_over, is_reading, is_shipping, length, nat_tests, on_answer, reduces_use, sent, subst, true, with_values, without, ℕ, ◌&&◌, ◌++◌, ◌+◌, ◌==◌, ◌∷◌, ◌≡◌}
 use Rattle.sdd_attempt.proofs.Phases.{with_counts, with_union, with_rows, ready_not_over, values_not_over, reduced_not_over}
 use Rattle.sdd_attempt.proofs.QuestionsOfAttempt.{ready_awaited, of_class}
 
@@ -16,7 +16,7 @@ shipping_not_over : (p : Phase) → is_shipping p ≡ true → is_over p ≡ fal
 shipping_not_over p e = grind arith
 
 last_rows : (s : Setting) (bases : Bases) (a : Attempt) (rows : List (ℕ × Row)) (c : ℕ) (y : Exchange) → y.found ≡ a.exchange.found ++ rows
-    → is_shipping y.phase ≡ true → (dms : List ℕ) → ServesIfLast s bases a rows dms → ServesOver s.catalogue a.text (bases a.ts) (lacking a.ts c y dms)
+    → is_shipping y.phase ≡ true → (dms : List ℕ) → ServesIfLast s bases a rows dms → ServesOver s.catalogue a.text (bases a.ts) (on_answer a.ts c y dms)
 last_rows s bases a rows c y found e dms h = grind arith
 
 if_serves : (cat : Catalogue) (txn : Txn) (db : Database) (b : Bool) (x y : Exchange) → (b ≡ true → ServesOver cat txn db y) → ServesOver cat txn db x

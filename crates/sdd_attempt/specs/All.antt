@@ -2,7 +2,7 @@
 pub use Rattle.sdd_attempt.specs.Acts.{attempt_due, commit_act, modules_of, read_to, start_act, use_there, with_frags}
 pub use Rattle.sdd_attempt.specs.Attempts.{Attempt, active, active_after, active_handed, active_sent, asks_rows, rejects, started}
 pub use Rattle.sdd_attempt.specs.Clocks.{clock, pushed_by, ticked_by}
-pub use Rattle.sdd_attempt.specs.Exchange.{Asking, Exchange, Phase, after_hand, after_send, answered, asking_of, askings, begins, counted, counts_for, fetches, fetches_from, first_phase, goes_on, is_over, lacking, module_read, move_at, phase_ends, send_due, use_at, with_use, without}
+pub use Rattle.sdd_attempt.specs.Exchange.{Asking, Exchange, Phase, after_hand, after_send, answered, asking_of, askings, begins, counted, counts_for, fetches, fetches_from, first_phase, goes_on, is_over, module_read, move_at, on_answer, phase_ends, send_due, use_at, with_use, without}
 pub use Rattle.sdd_attempt.specs.Exchange.Phase.{Fetching, Over, Reading, Reducing, Shipping}
 pub use Rattle.sdd_attempt.specs.Fits.{AnswersRead, AwaitsAt, FitsReady, FitsRows, FitsSite, at_site, fetches_use, handed, reduces_use, sent}
 pub use Rattle.sdd_attempt.specs.Lines.{AreTried, IsAwaited, Line, ServesAt, clock_done, commit_next, head_is_untried, line_after, line_done, line_step, no_line, send_next, start_next}

@@ -111,14 +111,18 @@ phase_ends ts c x (Reducing m) = goes_on ts c x x.left x.done
 phase_ends ts c x Shipping = record x { phase = Over }
 phase_ends ts c x Over = x
 
--- the answers of these modules are still missing
-abbrev pub lacking : ℕ → ℕ → Exchange → List ℕ → Exchange
-lacking ts c x [] = phase_ends ts c (record x { lacks = [] }) x.phase
-lacking ts c x (d ∷ dms) = record x { lacks = d ∷ dms }
+-- the exchange where the answers of these modules are missing
+abbrev pub with_lacks : Exchange → List ℕ → Exchange
+with_lacks x dms = record x { lacks = dms }
+
+-- An answer came, after which those of these modules are missing: where there is none, the phase ends.
+abbrev pub on_answer : ℕ → ℕ → Exchange → List ℕ → Exchange
+on_answer ts c x [] = phase_ends ts c (with_lacks x []) x.phase
+on_answer ts c x (d ∷ dms) = with_lacks x (d ∷ dms)
 
 -- the answer of module d came
 abbrev pub answered : ℕ → ℕ → ℕ → Exchange → Exchange
-answered ts c d x = lacking ts c x (without x.lacks d)
+answered ts c d x = on_answer ts c x (without x.lacks d)
 
 -- the counts of uses at module d, each in the place of an earlier one
 abbrev pub counted : ℕ → List (ℕ × ℕ) → List ((ℕ × ℕ) × ℕ) → List ((ℕ × ℕ) × ℕ)

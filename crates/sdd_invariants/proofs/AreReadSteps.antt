@@ -1,5 +1,5 @@
 -- What is due at a data module is a step.
-use Rattle.sdd_invariants.proofs.All.{Act, Bool, Change, ClassNo, ClassView, Cond, Home, IsClassHere, IsDue, IsReadStep, List, Log, Msg, None, Null, Open, Option, Processes, Read, Setting, Some, Ts, TxnNo, Use, Write, [], act_by, act_where, answer_of, arith, at_class, by_head, by_open, by_record, by_wait, class_view, empty_pipe, false, filter, get_or-map-range_with_len, get_or_past, head, head_due, head_of, home_of, if◌then◌else◌, in_mapped, inl, inr, is_asked_of, is_held, is_met, judged, lacking, length, length-map-range_with_len, list_all, pipe, refl, slice_get, spoiler, step_on, subst, suc, sym, true, view_of, waits, ℕ, ◌∷◌, ◌≡◌, ◌≤◌}
+use Rattle.sdd_invariants.proofs.All.{Act, Bool, Change, ClassNo, ClassView, Cond, Home, IsClassHere, IsDue, IsReadStep, List, Log, Msg, None, Null, Open, Option, Processes, Read, Setting, Some, Ts, TxnNo, Use, Write, [], act_by, act_where, answer_of, arith, at_class, by_head, by_open, by_record, by_wait, class_view, empty_pipe, false, filter, get_or-map-range_with_len, get_or_past, head, head_due, head_of, home_of, if◌then◌else◌, in_mapped, inl, inr, is_asked_of, is_held, is_met, judged, length, length-map-range_with_len, list_all, pipe, refl, slice_get, spoiler, step_on, subst, suc, sym, true, view_of, waits, ℕ, ◌∷◌, ◌≡◌, ◌≤◌}
 use Rattle.sdd_invariants.proofs.Lists.{in_range, nothing_left}
 
 abbrev pub no_class : ClassView

@@ -1,5 +1,5 @@
 -- Who puts what at a data module.
-use Rattle.sdd_invariants.proofs.All.{Act, Apply, Bool, Change, ClassNo, ClassView, Cond, Did, Done, Each, Entry, Handed, Home, IsClassHere, IsDue, IsDueEach, IsPutByD, List, Log, Msg, None, Open, Option, Processes, Read, Records, Setting, Site, Some, Ts, TxnNo, U, Use, WasAsked, Write, [], act_by, act_where, answer_of, answer_to, ap, arith, ask_for, by_head, by_open, class_asked, eqb-true, false, filter, hands, head, head_of, home_of, if◌then◌else◌, inl, inr, is_asked_of, is_held, is_met, is_some, judged, lacking, list_all, map, not, opens, opens_acted, pipe, piped, puts_to, refl, same_site, sends_of_act, slice_get, spoiler, step_on, subst, suc, to_site, true, view_of, waits, zero, ℕ, ◌++◌, ◌==◌, ◌∷◌, ◌≡◌, ◌⊎◌}
+use Rattle.sdd_invariants.proofs.All.{Act, Apply, Bool, Change, ClassNo, ClassView, Cond, Did, Done, Each, Entry, Handed, Home, IsClassHere, IsDue, IsDueEach, IsPutByD, List, Log, Msg, None, Open, Option, Processes, Read, Records, Setting, Site, Some, Ts, TxnNo, U, Use, WasAsked, Write, [], act_by, act_where, answer_of, answer_to, ap, arith, ask_for, by_head, by_open, class_asked, eqb-true, false, filter, hands, head, head_of, home_of, if◌then◌else◌, inl, inr, is_asked_of, is_held, is_met, is_some, judged, list_all, map, not, opens, opens_acted, pipe, piped, puts_to, refl, same_site, sends_of_act, slice_get, spoiler, step_on, subst, suc, to_site, true, view_of, waits, zero, ℕ, ◌++◌, ◌==◌, ◌∷◌, ◌≡◌, ◌⊎◌}
 use Rattle.sdd_invariants.proofs.AreReadSteps.{class_at_place}
 use Rattle.sdd_invariants.proofs.Lists.{in_either, in_filtered, in_one}
 use Rattle.sdd_invariants.proofs.Sites.{site_is, the_one}

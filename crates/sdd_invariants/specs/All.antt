@@ -20,7 +20,7 @@ pub use Rattle.sdd_invariants.specs.Turns.{NoneHold, is_a_held, is_a_hold, is_a_
 pub use Rattle.sdd_invariants.specs.attempt.Acts.{attempt_due, commit_act, conditions_at, modules_of, p2_of, start_act, use_there, with_frags, write_to}
 pub use Rattle.sdd_invariants.specs.attempt.Attempts.{Attempt, active, active_handed, active_sent, asks_rows, rejects, started}
 pub use Rattle.sdd_invariants.specs.attempt.Clocks.{clock, pushed_by, ticked_by}
-pub use Rattle.sdd_invariants.specs.attempt.Exchange.{Asking, Exchange, Fetching, Over, Phase, Reading, Reducing, Shipping, after_hand, after_send, answered, begins, counted, counts_for, fetches, fetches_from, first_phase, first_send, goes_on, is_over, lacking, module_read, move_at, phase_ends, reduces, send_due, ships, to_all, with_use, without}
+pub use Rattle.sdd_invariants.specs.attempt.Exchange.{Asking, Exchange, Fetching, Over, Phase, Reading, Reducing, Shipping, after_hand, after_send, answered, begins, counted, counts_for, fetches, fetches_from, first_phase, first_send, goes_on, is_over, module_read, move_at, on_answer, phase_ends, reduces, send_due, ships, to_all, with_use, without}
 pub use Rattle.sdd_invariants.specs.attempt.Fits.{AnswersRead, Awaits, AwaitsAt, FitsReady, FitsRows, FitsSite, ServesIfLast, at_site, fetches_use, is_read, is_shipping, is_verdict, numbers_of, reduces_use, uses_asked, uses_at, uses_read}
 pub use Rattle.sdd_invariants.specs.attempt.Queues.{Queued, is_for, queue, submitted, tried}
 pub use Rattle.sdd_invariants.specs.attempt.Reads.{AreThere}

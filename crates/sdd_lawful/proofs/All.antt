@@ -39,8 +39,9 @@ pub use Rattle.sdd_invariants.proofs.logs.attempt.site_module.wire.Texts.{contai
 pub use Rattle.sdd_invariants.proofs.logs.dm.Applied.{acted_more as applied_if}
 pub use Rattle.sdd_invariants.proofs.logs.net.Lists.{get-append as in_left}
 pub use Rattle.sdd_invariants.proofs.logs.tm.Lists.{get_within as place_within, of_map as in_mapped}
+pub use Rattle.sdd_invariants.proofs.protocol.ConditionOn.{condition_class, condition_is}
 pub use Rattle.sdd_invariants.proofs.protocol.Laws.{one_table}
-pub use Rattle.sdd_invariants.specs.All.{Act, AllCommitted, AllLe, AllLt, Answer, Apply, Arrive, Ask, Attempt as Running, Bases, Catalogue, Change, Class, ClassNo, ClassView, Commit, Cond, Condition, D, Database, Delete, Did, DmNo, Does, Done, Each, Effect, Entry, Era, FitsStatement, FitsTxn, FragNo, Fragment, Hand, Handed, HasApply, History, Home, Input, IsAnswerWith, IsApplied, IsApplyOf, IsAskBy, IsBased, IsChange, IsClassHere, IsCommitRecord, IsDatabase, IsDue, IsDueAt, IsEntry, IsEra, IsFair, IsLawful, IsOf, IsOfWrite, IsPermitted, IsPlaced, IsPutAt, IsRead, IsReadStep, IsRelation, IsServedClass, IsSoundCatalogue, IsStartOf, IsStartRecord, IsStep, IsTable, IsWrite, Item, Log, Mark, May, Msg, Nothing, Null, Open, Pass, Protocol, Put, PutsHeld, Query, Queued, Read, Rec, Records, Redeclares, RelNo, Reply, Restriction, Row, Sends, Setting, Site, Start, Stmt, Submits, Submitted, T, Tick, TmNo, Ts, Txn, TxnNo, U, Update, Use, View, Wait, Write, act_by, act_where, active, answer_of, applied, ascending, asked_by, asked_in, asks_rows, base_of, bound, by_record, by_wait, change_of, changes_at, changes_in, changes_to, class_at, class_for, class_no, class_puts, classes_of, clock, commit_act, commit_more, cond_for, cond_of, condition_on, conditions, conditions_at, contains, covers, current_era, database_of, dated, dm_no, effect, first_row, first_rows, first_send, frag_no, fragment_at, fragment_of, fragments_for, fragments_in, fragments_of, frags_asked, given_to, handed, hands, has_copy, head, head_of, history, home, home_of, in_passing, is_apply, is_asked, is_asked_of, is_at, is_committed, is_for, is_met, is_processing, is_read_at, item_cmp, items_of, judged, last_write_for, local_of, mark_due, marks, modules_asked, modules_of, next_stamp, nth_era, number_of, numbers_to, opens, or_else, or_zero, p2_of, part_uses, pipe, pipe_at, promises, puts_to, queue, reads_at, redeclares, restrictions_of, results, rows_in_fragment, rows_of, same_protocol, same_site, sends_of_act, setting_of, snapshots, snapshots_at, spoiler, spoils, stamps, start_at, start_more, start_read, start_u, starts_of, statement_uses, step_on, submits_by, submits_in, submits_of, time_at, time_of, tm_no, to_site, touches, txn_at, txn_no, u_stamp, use_of, use_there, uses_from, uses_of, view_of, waits, was_marked, with_era, with_item, write_to}
+pub use Rattle.sdd_invariants.specs.All.{Act, AllCommitted, AllLe, AllLt, Answer, Apply, Arrive, Ask, Attempt as Running, Bases, Catalogue, Change, Class, ClassNo, ClassView, Commit, Cond, Condition, D, Database, Delete, Did, DmNo, Does, Done, Each, Effect, Entry, Era, FitsStatement, FitsTxn, FragNo, Fragment, Hand, Handed, HasApply, History, Home, Input, IsAnswerWith, IsApplied, IsApplyOf, IsAskBy, IsBased, IsChange, IsClassHere, IsCommitRecord, IsDatabase, IsDue, IsDueAt, IsEntry, IsEra, IsFair, IsLawful, IsOf, IsOfWrite, IsPermitted, IsPlaced, IsPutAt, IsRead, IsReadStep, IsRelation, IsServedClass, IsSoundCatalogue, IsStartOf, IsStartRecord, IsStep, IsTable, IsWrite, Item, Log, Mark, May, Msg, Nothing, Null, Open, P2, P3, Pass, Protocol, Put, PutsHeld, Query, Queued, Read, Rec, Records, Redeclares, RelNo, Reply, Restriction, Row, Sends, Setting, Site, Start, Stmt, Submits, Submitted, T, Tick, TmNo, Ts, Txn, TxnNo, U, Update, Use, View, Wait, Write, act_by, act_where, active, answer_of, applied, ascending, asked_by, asked_in, asks_rows, base_of, bound, by_record, by_wait, change_of, changes_at, changes_in, changes_to, class_at, class_for, class_no, class_puts, classes_of, clock, commit_act, commit_more, cond_of, condition_on, conditions, conditions_at, contains, covers, current_era, database_of, dated, dm_no, effect, first_row, first_rows, first_send, frag_no, fragment_at, fragment_of, fragments_for, fragments_in, fragments_of, frags_asked, given_to, handed, hands, has_copy, head, head_of, history, home, home_of, in_passing, is_apply, is_asked, is_asked_of, is_at, is_committed, is_for, is_met, is_processing, is_read_at, item_cmp, items_of, judged, last_write_for, local_of, mark_due, marks, modules_asked, modules_of, next_stamp, nth_era, number_of, numbers_to, opens, or_else, or_zero, p2_of, part_uses, pipe, pipe_at, promises, puts_to, queue, reads_at, redeclares, restrictions_of, results, rows_in_fragment, rows_of, same_protocol, same_site, sends_of_act, setting_of, snapshots, snapshots_at, spoiler, spoils, stamps, start_at, start_more, start_read, start_u, starts_of, statement_uses, step_on, submits_by, submits_in, submits_of, time_at, time_of, tm_no, to_site, touches, txn_at, txn_no, u_stamp, use_of, use_there, uses_from, uses_of, view_of, waits, was_marked, with_era, with_item, write_to}
 pub use Rattle.sdd_invariants.specs.logs.Permitted.{one_if}
 pub use Rattle.sdd_invariants.specs.site_module.SiteLog.{Log as SiteLog}
 pub use Rattle.sdd_lawful.specs.Made.{IsBefore, IsMadeAt, record_of}

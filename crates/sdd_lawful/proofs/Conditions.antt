@@ -1,5 +1,5 @@
 -- The history of a permitted log keeps the law of read conditions.
-use Rattle.sdd_lawful.proofs.All.{AppliedBefore, AreErasOf, Attempt, Catalogue, Change, Committed, Cond, Contains, D, Does, Entry, Eras, FragNo, Input, IsAnswerWith, IsAnswered, IsApplied, IsAttempt, IsCommitted, IsConditionOf, IsPermitted, IsSoundCatalogue, IsTable, KeepsConditions, List, Log, None, Option, Records, Some, TouchesOne, [], any_at, ap, append_assoc, arith, ascending, class_no, commit_act, conditions, conditions_at, conditions_of, cons_option, contains, current_era, dm_no, eqb-true, event_at, false, filter, filter_map, fragments_in, get_or_from_slice_get, has_copy, history, home, in_mapped, in_range, list_any, map, marks, member_at, one_table, p2_time, place_within, refl, same_or_not, slice_get, split_applied, subst, suc, sym, time_at, touches, true, txn_no, zero, ℕ, ◌++◌, ◌<◌, ◌==◌, ◌||◌, ◌∙◌, ◌∷◌, ◌≡◌, ◌≤◌}
+use Rattle.sdd_lawful.proofs.All.{AppliedBefore, AreErasOf, Attempt, Catalogue, Change, Committed, Cond, Contains, D, Does, Entry, Eras, FragNo, Input, IsAnswerWith, IsAnswered, IsApplied, IsAttempt, IsCommitted, IsConditionOf, IsPermitted, IsSoundCatalogue, IsTable, KeepsConditions, List, Log, None, Option, Records, Some, TouchesOne, [], any_at, ap, append_assoc, arith, ascending, class_no, classes_of, commit_act, cond_of, condition_class, condition_on, conditions, conditions_at, conditions_of, cons_option, contains, current_era, dm_no, eqb-true, event_at, false, filter, filter_map, frag_no, fragments_in, fragments_of, get_or_from_slice_get, has_copy, history, home, in_mapped, in_range, inl, inr, is_asked, length, list_any, map, marks, member_at, one_table, p2_time, place_within, refl, same_or_not, slice_get, split_applied, subst, suc, sym, time_at, touches, true, txn_no, zero, ℕ, ◌++◌, ◌<◌, ◌==◌, ◌||◌, ◌∙◌, ◌∷◌, ◌≡◌, ◌≤◌}
 use Rattle.sdd_lawful.proofs.Answered.{IsReadIn, answer_in, answer_made, answer_rec}
 use Rattle.sdd_lawful.proofs.Applies.{apply_of_committed, applied_seen, seen_applied}
 use Rattle.sdd_lawful.proofs.Classes.{at_home, era_there, further_back, home_setting}
@@ -32,7 +32,13 @@ in_filter_mapped {A = A} {B = B} f (x ∷ xs) k y e =
 
 pub above_zero : (cat : Catalogue) (table : List line.Entry) (class : ℕ) (frags : List ℕ) (own p2 d k : ℕ) (c : Cond)
     → slice_get (conditions_at cat table class frags own p2 d) k ≡ Some c → 1 ≤ c.class.0
-above_zero cat table class frags own p2 d k c e = grind (arith, same_or_not, in_mapped, in_range, in_filter_mapped)
+above_zero cat table class frags own p2 d k c e = elim (same_or_not class 0) [
+  | inl p ↦ (let i = in_mapped (λ j. cond_of j own (map frag_no (fragments_of cat))) (classes_of cat) k c (rw (ap (λ y. y == 0) p) at e) in
+      subst (λ (q : Cond). 1 ≤ q.class.0) i.2 (in_range 1 (length cat.classes) k i.0 i.1).0)
+  | inr p ↦ (let test = is_asked cat class d (map frag_no frags) in
+      let i = in_filter_mapped (condition_on test table class own p2) (classes_of cat) k c (rw p at e) in
+      subst (λ n. 1 ≤ n) (sym (condition_class test table class own p2 i.1 c i.3)) (in_range 1 (length cat.classes) i.0 i.1 i.2).0)
+]
 
 -- the conditions of a READ are those of its attempt
 

@@ -1,5 +1,5 @@
 -- What transactions use is there: relations, fragments, the modules that are asked, and what conditions name.
-use Rattle.sdd_lawful.proofs.All.{All-from_recursion, AllByRecursion, Bool, Catalogue, Cond, CondExists, Condition, Delete, FitsStatement, FragNo, IsFragment, IsModule, IsRelation, IsSoundCatalogue, IsThere, List, Protocol, Put, Query, RelNo, Restriction, Some, Stmt, Update, Use, UseExists, [], all_join, all_numbers, and_left, and_right, ap, arith, ascending, asked_by, asked_in, classes_of, cond_for, cond_of, condition_on, conditions_at, contains, contains_at, false, filter_map, frag_no, fragments_for, fragments_in, fragments_of, fragments_there, from_ascending, in_mapped, in_range, inl, inr, is_asked, is_read_at, length, list_any, map, member_at, modules_of, number_member, numbers_to, only_right, part_uses, reads_at, recursion_from_All, refl, restrictions_of, same_or_not, same_protocol, served_read, slice_get, statement_uses, subst, suc, true, true_or_false, use_of, uses_from, ℕ, ◌+◌, ◌==◌, ◌||◌, ◌∷◌, ◌≡◌, ◌≤◌}
+use Rattle.sdd_lawful.proofs.All.{All-from_recursion, AllByRecursion, Bool, Catalogue, Cond, CondExists, Condition, Delete, FitsStatement, FragNo, IsClass, IsFragment, IsModule, IsRelation, IsSoundCatalogue, IsThere, List, P2, P3, Protocol, Put, Query, RelNo, Restriction, Some, Stmt, Update, Use, UseExists, [], all_join, all_numbers, and_left, and_right, ap, arith, ascending, asked_by, asked_in, classes_of, cond_of, condition_is, condition_on, conditions_at, contains, contains_at, false, filter_map, frag_no, fragments_for, fragments_in, fragments_of, fragments_there, from_ascending, in_mapped, in_range, inl, inr, is_asked, is_read_at, length, list_any, map, member_at, modules_of, number_member, numbers_to, only_right, part_uses, reads_at, recursion_from_All, refl, restrictions_of, same_or_not, same_protocol, served_read, slice_get, statement_uses, subst, suc, sym, true, true_or_false, use_of, uses_from, ℕ, ◌+◌, ◌==◌, ◌||◌, ◌∷◌, ◌≡◌, ◌≤◌}
 use Rattle.sdd_lawful.proofs.Asks.{contains_either}
 use Rattle.sdd_lawful.proofs.Conditions.{in_filter_mapped}
 use Rattle.sdd_invariants.specs.protocol.declared.entry.Entry as line
@@ -104,5 +104,14 @@ cond_exists cat table class frags own p2 d k q h e = elim (same_or_not class 0) 
       let high = (in_range 1 (length cat.classes) k i.0 i.1).1 in
       let all = all_numbered cat (fragments_of cat) (λ n m f. let z = in_range 1 (length cat.fragments) n m f in let hi = z.1 in (z.0, omega arith)) in
       subst (CondExists cat) i.2 (omega arith, All-from_recursion (λ (f : FragNo). IsFragment cat f.0) (map frag_no (fragments_of cat)) all))
-  | inr p ↦ grind (arith, in_filter_mapped, condition_on, is_asked, frag_no, classes_of, in_range, cond_for, asked_by, All-from_recursion, asked_exist)
+  | inr p ↦ (let test = is_asked cat class d (map frag_no frags) in
+      let i = in_filter_mapped (condition_on test table class own p2) (classes_of cat) k q (rw p at e) in
+      let high = (in_range 1 (length cat.classes) i.0 i.1 i.2).1 in
+      let is_class : IsClass cat i.1 = omega arith in
+      let exist = λ (protocol : Protocol). All-from_recursion (λ (f : FragNo). IsFragment cat f.0) (asked_by protocol test table class i.1)
+      (asked_exist cat class d frags protocol table class i.1 h) in
+      elim (condition_is test table class own p2 i.1 q i.3) [
+        | inl a ↦ subst (CondExists cat) (sym a.is) (is_class, exist P3)
+        | inr a ↦ subst (CondExists cat) (sym a.is) (is_class, exist P2)
+      ])
 ]

@@ -73,8 +73,9 @@ pub use Rattle.sdd_order.specs.Orders.{IsOrderable, IsSerial}
 pub use Rattle.sdd_order.specs.Paths.{IsOrderly, IsPath}
 pub use Rattle.sdd_order.specs.Places.{IsRecordAt, comes_before, event_at}
 pub use Rattle.sdd_order.specs.Precedence.{HasNoCycle, Precedes, is_answer, is_apply, is_earlier, is_overwritten, is_read_by, misses, module_of, precedes, was_seen}
+pub use Rattle.sdd_protocol.proofs.ConditionOn.{condition_time as asked_time}
 pub use Rattle.sdd_protocol.proofs.Tables.{all_at}
-pub use Rattle.sdd_protocol.specs.Conditions.{asked_by, cond_for, cond_of, condition_on, conditions, is_asked, undeclared_conditions}
+pub use Rattle.sdd_protocol.specs.Conditions.{cond_of, condition_on, conditions, is_asked, undeclared_conditions}
 pub use Rattle.sdd_protocol.specs.Protocols.{IsTable}
 pub use Rattle.sdd_protocol.specs.declared.entry.Entry.{Entry}
 pub use Rattle.std.proofs.Common.{All, Bool, Contains, Less, List, None, Option, Ordering, Some, [], ap, arith, cond, eq-eqb, eqb-true, false, filter, filter_map, find, flat_map, fold, inl, inr, int_cmp, is_eq, is_some, length, ltb-true, map, nat_eq as eqb, nat_lt, ne_eqb, not, option_map, pos, refl, rules, slice_index_or, subst, suc, sym, take, true, unwrap_or, zero, ℕ, ℤ, ◌&&◌, ◌*◌, ◌++◌, ◌+◌, ◌-◌, ◌<◌, ◌==◌, ◌||◌, ◌↔◌, ◌∙◌, ◌∷◌, ◌≡◌, ◌≢◌, ◌≤◌, ◌⊎◌}
@@ -94,4 +95,3 @@ pub use Rattle.std.specs.Cmp.{IsTotalOrder, nat_eq_equiv}
 pub use Rattle.std.specs.List.{AllByRecursion, AllZip, cons_option, list_any, position_or_len}
 pub use Rattle.std.specs.List.Sorted.{IsStrictlySortedBy}
 pub use Rattle.std.specs.Map.{keys_of, lookup, remove_entry}
-pub use Rattle.std.specs.Option.{option_or}

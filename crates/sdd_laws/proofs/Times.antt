@@ -1,10 +1,5 @@
 -- The times of read conditions.
-use Rattle.sdd_laws.proofs.All.{Attempt, Catalogue, Cond, Contains, Contains-from_filter_map, Contains-from_map, Entry, FragNo, List, Option, Some, Ts, ap, arith, ascending, asked_by, classes_of, cond, cond_for, cond_of, condition_on, conditions, conditions_of, false, frag_no, fragments_in, fragments_of, inl, is_asked, is_some, map, nat_tests, not, option_map, option_or, p2_time, rules, true, undeclared_conditions, unwrap_or, ℕ, ◌==◌, ◌≡◌, ◌⊎◌}
-
--- it is one of two times
-one_of_two : (j own p2 : ℕ) (thirds seconds : List FragNo) (c : Cond)
-    → option_or (cond_for j own thirds) (cond_for j p2 seconds) ≡ Some c → (c.time.0 ≡ own) ⊎ (c.time.0 ≡ p2)
-one_of_two j own p2 thirds seconds c e = search rules
+use Rattle.sdd_laws.proofs.All.{Attempt, Catalogue, Cond, Contains, Contains-from_filter_map, Contains-from_map, Entry, List, Option, Some, Ts, ap, ascending, asked_time, classes_of, cond, cond_of, condition_on, conditions, conditions_of, false, frag_no, fragments_in, fragments_of, inl, inr, is_asked, is_some, map, not, option_map, p2_time, rules, true, undeclared_conditions, unwrap_or, ℕ, ◌==◌, ◌∙◌, ◌≡◌, ◌⊎◌}
 
 p2_there : (o : Option Ts) → is_some o ≡ true → (t : Ts) × (o ≡ Some t) × (unwrap_or (option_map (λ (z : Ts). z.0) o) 0 ≡ t.0)
 p2_there o e = search rules
@@ -23,5 +18,7 @@ condition_time cat table a d c =
           inl (ap (λ (z : Cond). z.time.0) (Contains-from_map (λ k. cond_of k a.ts (map frag_no (fragments_of cat))) (classes_of cat) c m).2)
       | false ↦ λ m e.
           let of = Contains-from_filter_map (condition_on (is_asked cat a.class d frags) table a.class a.ts (p2_time a)) (classes_of cat) c m in
-          grind (arith, nat_tests, is_asked, p2_there, one_of_two, p2_time, asked_by)
+          let time = asked_time (is_asked cat a.class d frags) table a.class a.ts (p2_time a) of.0 c of.2 in
+          let there = p2_there a.p2 e in
+          elim time [ inl t ↦ inl t | inr t ↦ inr (there.0, there.1, t ∙ there.2) ]
     ]

@@ -8,7 +8,7 @@ pub use Rattle.sdd_log.specs.Traffic.{calls_of, handed, link_of, message_at, put
 pub use Rattle.sdd_log.specs.attempt.Acts.{attempt_due, commit_act, modules_of, p2_of, read_to, start_act, write_to}
 pub use Rattle.sdd_log.specs.attempt.Attempts.{Attempt, active, active_after, active_handed, active_sent, asks_rows, rejects, started}
 pub use Rattle.sdd_log.specs.attempt.Clocks.{clock, pushed_by, ticked_by}
-pub use Rattle.sdd_log.specs.attempt.Exchange.{Asking, Exchange, Fetching, Over, Phase, Reading, Reducing, Shipping, after_hand, after_send, answered, begins, counted, counts_for, fetches, fetches_from, first_phase, first_send, goes_on, is_over, lacking, module_read, move_at, phase_ends, reduces, ships, to_all, with_use, without}
+pub use Rattle.sdd_log.specs.attempt.Exchange.{Asking, Exchange, Fetching, Over, Phase, Reading, Reducing, Shipping, after_hand, after_send, answered, begins, counted, counts_for, fetches, fetches_from, first_phase, first_send, goes_on, is_over, module_read, move_at, phase_ends, reduces, ships, to_all, with_use, without}
 pub use Rattle.sdd_log.specs.attempt.Queues.{Queued, is_for, queue, tried}
 pub use Rattle.sdd_log.specs.base.Clock.{Ticking, bound_of, ticked, timestamp}
 pub use Rattle.sdd_log.specs.base.Numbers.{class_no, dm_no, frag_no, rel_no, time_at, tm_no, txn_no}

@@ -55,7 +55,7 @@ pub use Rattle.sdd_invariants.proofs.logs.NextMark.{mark_is_next}
 pub use Rattle.sdd_invariants.proofs.logs.Marking.{TurnsNone}
 pub use Rattle.sdd_invariants.proofs.logs.NewMarks.{lawful_permitted}
 pub use Rattle.sdd_invariants.proofs.logs.Rounding.{each_of_round}
-pub use Rattle.sdd_invariants.proofs.logs.attempt.Phases.{lacking_modules as lack_modules, own as own_started}
+pub use Rattle.sdd_invariants.proofs.logs.attempt.Phases.{on_answer_modules as lack_modules, own as own_started}
 pub use Rattle.sdd_invariants.proofs.logs.attempt.Queueing.{other_way as not_same}
 pub use Rattle.sdd_invariants.proofs.logs.attempt.Waiting.{shorter as filter_shorter}
 pub use Rattle.sdd_invariants.proofs.logs.net.Lists.{get-append as in_left}
@@ -64,8 +64,9 @@ pub use Rattle.sdd_invariants.proofs.logs.umod.Turns.{counts_tm}
 pub use Rattle.sdd_invariants.proofs.net.Directions.{link_back, link_parts}
 pub use Rattle.sdd_invariants.proofs.net.Lists.{All-at}
 pub use Rattle.sdd_invariants.proofs.net.Rounds.{links_exist}
+pub use Rattle.sdd_invariants.proofs.protocol.ConditionOn.{by_condition, condition_class}
 pub use Rattle.sdd_invariants.proofs.site_module.Finding.{found_at, one_of}
-pub use Rattle.sdd_invariants.specs.All.{Act, AllGe, AllGt, AllLe, AllLinked, AllLt, AllReadied, Answer, AnswersRead, Apply, AreFor, AreThere, Arrive, Ascend, Ask, Asking, AtEach, Attempt, AwaitsAt, Bases, Call, Catalogue, Change, Changed, Class, ClassNo, ClassView, Commit, Cond, Condition, D, Database, Delete, Deliver, Did, DmNo, Does, Done, Down, Each, Entry, Era, Event, Exchange, Fetch, Fetching, FitsChange, FitsClass, FitsCond, FitsDone, FitsHeldFrom, FitsHold, FitsPipe, FitsRelease, FitsShip, FitsSite, FitsTxn, FragNo, Hand, Handed, HasAnswer, Held, History, Hold, HoldRule, Home, Input, IsAllowed, IsApplyOf, IsAskBy, IsBased, IsClassHere, IsDatabase, IsDoneBy, IsDue, IsDueAt, IsDueEach, IsEntry, IsFair, IsFairT, IsFairU, IsFetch, IsHere, IsHoldChain, IsLawful, IsNew, IsPermitted, IsPutBy, IsPutByD, IsRead, IsReadOf, IsReadStep, IsReadyBy, IsReduce, IsRejectBy, IsRising, IsSend, IsServed, IsServedClass, IsShip, IsSiteOf, IsSoundCatalogue, IsStep, IsStepU, IsStrict, IsWhole, IsWithin, IsWrite, Item, Link, Log, Lose, MAX_EVENTS, MAX_LINK_MESSAGES, MAX_RUN_EVENTS, MAX_TICKS, Mark, Move, Msg, NoRecord, NoneHold, Notes, Null, Open, Over, Pass, Phase, Pipe, Processes, Put, Puts, Query, Question, Queued, Read, Reading, Ready, Rec, Records, Redeclare, Redeclared, Redeclares, Reduce, Reduced, Reducing, Reject, RelNo, Release, Repeat, Resend, Round, Row, Rows, Sends, ServesIfLast, Setting, Settle, Ship, Shipping, Site, Start, Step, Stmt, Submit, Submits, Submitted, T, Tick, Ticked, Ticking, TmCounts, TmNo, Ts, Txn, TxnNo, U, Up, Update, Use, Value, Values, View, Wait, Waits, WasAsked, Write, act_by, act_where, active, active_handed, active_sent, after_hand, after_mark, after_send, all_held, all_links, all_of, answer_of, answer_to, answered, applied, applied_acted, are_linked, ascending, ask_for, asks_acted, asks_handed, asks_rows, at_class, at_site, attempt_due, base_of, beginning, begins, bound, by_ask, by_exchange, by_head, by_hold, by_open, by_start, calls_of, change_of, changes_at, changes_in, class_asked, class_at, class_for, class_is, class_no, class_puts, clock, column, commit_act, cond_of, condition_on, conditions, conditions_at, contains, copies, counted, counts, counts_for, current_era, database_of, dated, dated_in, delivered, dm_no, does_at, done_for, dones_of, effect, fetches, fetches_from, fetches_use, first_phase, first_row, first_send, fits, frag_no, fragment_at, fragments_in, fragments_of, frags_asked, from_event, frozen, frozen_at, frozen_handed, given_to, given_up, goes_on, goes_through, greatest, greatest_bound, hand_due, hand_number, hand_on, handed, handed_by, hands, hands_from, has_copy, head, head_due, head_of, head_processed, history, holds, home, home_of, in_flight, is_a_held, is_a_hold, is_a_release, is_answer as is_answer_record, is_apply, is_asked, is_asked_of, is_at, is_done, is_done_of, is_down, is_for, is_held, is_link, is_met, is_number, is_over, is_processing, is_read, is_read_at, is_reading, is_recorded, is_shipping, is_site, is_verdict, item_cmp, items_of, judged, key_in, lacking, last_served, last_stamp, last_time, left, limit_of, link, link_of, links, local_of, made, made_by_mark, mark_due, mark_from, mark_of, marks, message_at, module_read, modules_asked, modules_of, move_at, next, next_at, next_move, next_number, next_stamp, nth_era, null_at, number_of, numbers_of, numbers_to, one_if, open_due, opens, opens_acted, opens_handed, or_else, or_zero, part_uses, phase_ends, pipe, pipe_acted, pipe_at, piped, put, put_by, puts, puts_past, puts_to, queue, queued, quiet, raised, read_at, reads_at, reads_in, redeclared_entry, redeclares, reduces, reduces_use, rejects, resends_now, round, rows_held, runs, same_site, sends_of_act, sent, setting_of, ships, site_due, sites, snapshots, snapshots_at, source_of, spoiler, spoils, stamp_or, start_act, start_at, start_of, start_read, start_u, started, starts, starts_more, statement_uses, step_on, submits, submits_of, tail_of, takes_part, tally, time_at, time_in, time_of, times_in, tm_no, to_all, to_site, ts_of, turned, turned_by, txn_at, undeclared_conditions, use_there, uses_at, uses_from, uses_of, uses_read, view_of, waits, with_frags, with_item, with_made, with_tick, with_time, with_use, with_values, without, write_at, write_time, write_time_of, write_times, write_to}
+pub use Rattle.sdd_invariants.specs.All.{Act, AllGe, AllGt, AllLe, AllLinked, AllLt, AllReadied, Answer, AnswersRead, Apply, AreFor, AreThere, Arrive, Ascend, Ask, Asking, AtEach, Attempt, AwaitsAt, Bases, Call, Catalogue, Change, Changed, Class, ClassNo, ClassView, Commit, Cond, Condition, D, Database, Delete, Deliver, Did, DmNo, Does, Done, Down, Each, Entry, Era, Event, Exchange, Fetch, Fetching, FitsChange, FitsClass, FitsCond, FitsDone, FitsHeldFrom, FitsHold, FitsPipe, FitsRelease, FitsShip, FitsSite, FitsTxn, FragNo, Hand, Handed, HasAnswer, Held, History, Hold, HoldRule, Home, Input, IsAllowed, IsApplyOf, IsAskBy, IsBased, IsClassHere, IsDatabase, IsDoneBy, IsDue, IsDueAt, IsDueEach, IsEntry, IsFair, IsFairT, IsFairU, IsFetch, IsHere, IsHoldChain, IsLawful, IsNew, IsPermitted, IsPutBy, IsPutByD, IsRead, IsReadOf, IsReadStep, IsReadyBy, IsReduce, IsRejectBy, IsRising, IsSend, IsServed, IsServedClass, IsShip, IsSiteOf, IsSoundCatalogue, IsStep, IsStepU, IsStrict, IsWhole, IsWithin, IsWrite, Item, Link, Log, Lose, MAX_EVENTS, MAX_LINK_MESSAGES, MAX_RUN_EVENTS, MAX_TICKS, Mark, Move, Msg, NoRecord, NoneHold, Notes, Null, Open, Over, Pass, Phase, Pipe, Processes, Put, Puts, Query, Question, Queued, Read, Reading, Ready, Rec, Records, Redeclare, Redeclared, Redeclares, Reduce, Reduced, Reducing, Reject, RelNo, Release, Repeat, Resend, Round, Row, Rows, Sends, ServesIfLast, Setting, Settle, Ship, Shipping, Site, Start, Step, Stmt, Submit, Submits, Submitted, T, Tick, Ticked, Ticking, TmCounts, TmNo, Ts, Txn, TxnNo, U, Up, Update, Use, Value, Values, View, Wait, Waits, WasAsked, Write, act_by, act_where, active, active_handed, active_sent, after_hand, after_mark, after_send, all_held, all_links, all_of, answer_of, answer_to, answered, applied, applied_acted, are_linked, ascending, ask_for, asks_acted, asks_handed, asks_rows, at_class, at_site, attempt_due, base_of, beginning, begins, bound, by_ask, by_exchange, by_head, by_hold, by_open, by_start, calls_of, change_of, changes_at, changes_in, class_asked, class_at, class_for, class_is, class_no, class_puts, clock, column, commit_act, cond_of, condition_on, conditions, conditions_at, contains, copies, counted, counts, counts_for, current_era, database_of, dated, dated_in, delivered, dm_no, does_at, done_for, dones_of, effect, fetches, fetches_from, fetches_use, first_phase, first_row, first_send, fits, frag_no, fragment_at, fragments_in, fragments_of, frags_asked, from_event, frozen, frozen_at, frozen_handed, given_to, given_up, goes_on, goes_through, greatest, greatest_bound, hand_due, hand_number, hand_on, handed, handed_by, hands, hands_from, has_copy, head, head_due, head_of, head_processed, history, holds, home, home_of, in_flight, is_a_held, is_a_hold, is_a_release, is_answer as is_answer_record, is_apply, is_asked, is_asked_of, is_at, is_done, is_done_of, is_down, is_for, is_held, is_link, is_met, is_number, is_over, is_processing, is_read, is_read_at, is_reading, is_recorded, is_shipping, is_site, is_verdict, item_cmp, items_of, judged, key_in, last_served, last_stamp, last_time, left, limit_of, link, link_of, links, local_of, made, made_by_mark, mark_due, mark_from, mark_of, marks, message_at, module_read, modules_asked, modules_of, move_at, next, next_at, next_move, next_number, next_stamp, nth_era, null_at, number_of, numbers_of, numbers_to, on_answer, one_if, open_due, opens, opens_acted, opens_handed, or_else, or_zero, part_uses, phase_ends, pipe, pipe_acted, pipe_at, piped, put, put_by, puts, puts_past, puts_to, queue, queued, quiet, raised, read_at, reads_at, reads_in, redeclared_entry, redeclares, reduces, reduces_use, rejects, resends_now, round, rows_held, runs, same_site, sends_of_act, sent, setting_of, ships, site_due, sites, snapshots, snapshots_at, source_of, spoiler, spoils, stamp_or, start_act, start_at, start_of, start_read, start_u, started, starts, starts_more, statement_uses, step_on, submits, submits_of, tail_of, takes_part, tally, time_at, time_in, time_of, times_in, tm_no, to_all, to_site, ts_of, turned, turned_by, txn_at, undeclared_conditions, use_there, uses_at, uses_from, uses_of, uses_read, view_of, waits, with_frags, with_item, with_made, with_tick, with_time, with_use, with_values, without, write_at, write_time, write_time_of, write_times, write_to}
 pub use Rattle.sdd_invariants.specs.attempt.Fits.{handed as all_handed}
 pub use Rattle.sdd_invariants.specs.dm.Copies.{classes_of}
 pub use Rattle.sdd_invariants.specs.dm.Views.{class_view}

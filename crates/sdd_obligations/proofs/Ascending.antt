@@ -1,10 +1,6 @@
 -- The conditions of a READ ascend by class, and what ascends does so at each step.
-use Rattle.sdd_obligations.proofs.All.{AllGt, Ascend, Bool, Catalogue, Cond, FragNo, IsStrict, List, None, Option, Some, [], arith, cond_of, condition_on, conditions, conditions_at, cons_option, filter_map, frag_no, fragments_of, if_way, is_asked, length, map, range_with_len, refl, suc, undeclared_conditions, zero, ℕ, ◌+◌, ◌<◌, ◌==◌, ◌∷◌, ◌≡◌}
-use Rattle.sdd_invariants.specs.All.{asked_by}
+use Rattle.sdd_obligations.proofs.All.{AllGt, Ascend, Catalogue, Cond, FragNo, IsStrict, List, None, Option, Some, [], arith, cond_of, condition_class, condition_on, conditions, conditions_at, cons_option, filter_map, frag_no, fragments_of, if_way, is_asked, length, map, range_with_len, refl, suc, undeclared_conditions, zero, ℕ, ◌+◌, ◌<◌, ◌==◌, ◌∷◌, ◌≡◌}
 use Rattle.sdd_invariants.specs.protocol.declared.entry.Entry as line
-
-pub condition_class : (f : ℕ → Bool) (entries : List line.Entry) (i own p2 j : ℕ) (q : Cond) → condition_on f entries i own p2 j ≡ Some q → q.class.0 ≡ j
-condition_class f entries i own p2 j q e = grind (arith, asked_by)
 
 -- conditions made for ascending classes
 
@@ -38,7 +34,8 @@ pub conditions_strict : (cat : Catalogue) (table : List line.Entry) (c : ℕ) (f
 conditions_strict cat table c frags own p2 d =
     if_way (λ conds. IsStrict (classes_in conds)) (c == 0) (undeclared_conditions cat own) (conditions cat table c d (map frag_no frags) own p2)
     (every_strict own (map frag_no (fragments_of cat)) 1 (length cat.classes))
-    (grind (arith, made_strict, condition_on, is_asked, frag_no, condition_class))
+    (let test = is_asked cat c d (map frag_no frags) in
+    made_strict (condition_on test table c own p2) 1 (length cat.classes) (condition_class test table c own p2))
 
 -- what stands above all that comes before it stands above the one before it
 

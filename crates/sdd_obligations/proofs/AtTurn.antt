@@ -1,5 +1,5 @@
 -- How an exchange stands with one of the data modules, by the turn, and that each of its steps keeps that.
-use Rattle.sdd_obligations.proofs.All.{Asking, Asks, Bool, Exchange, Fetch, Fetching, IsOfUses, IsStrict, List, Move, Msg, None, Over, Phase, Reading, Ready, Reduce, Reduced, Reducing, Replied, Rows, Ship, Shipping, Silent, Some, Step, Turn, Values, [], after_hand, answered, ap, arith, class_no, contains, counted, counts_for, false, fetches, fetches_from, goes_on, if◌then◌else◌, inl, inr, is_a_read, is_a_refusal, is_a_ship, is_answer, lacking, length, move_at, never, next_move, phase_ends, reduces, refl, same_number, ships, subst, sym, time_at, to_all, true, uses_at, with_use, with_values, without, ℕ, ◌&&◌, ◌++◌, ◌+◌, ◌==◌, ◌∙◌, ◌∷◌, ◌≡◌, ◌⊎◌}
+use Rattle.sdd_obligations.proofs.All.{Asking, Asks, Bool, Exchange, Fetch, Fetching, IsOfUses, IsStrict, List, Move, Msg, None, Over, Phase, Reading, Ready, Reduce, Reduced, Reducing, Replied, Rows, Ship, Shipping, Silent, Some, Step, Turn, Values, [], after_hand, answered, ap, arith, class_no, contains, counted, counts_for, false, fetches, fetches_from, goes_on, if◌then◌else◌, inl, inr, is_a_read, is_a_refusal, is_a_ship, is_answer, length, move_at, never, next_move, on_answer, phase_ends, reduces, refl, same_number, ships, subst, sym, time_at, to_all, true, uses_at, with_use, with_values, without, ℕ, ◌&&◌, ◌++◌, ◌+◌, ◌==◌, ◌∙◌, ◌∷◌, ◌≡◌, ◌⊎◌}
 use Rattle.sdd_obligations.proofs.Modules.{firsts, one_to_each, reading_ascends, reading_reads, to_module, without_other, without_own}
 
 -- the phase awaits the answer to a question
@@ -140,13 +140,13 @@ less_at n d ms p sends lacks v w (inr r) (awaited m ns a b e x f g) = awaited m 
 less_at n d ms p sends lacks v w (inr r) (answered_last q ns a b e s f g) = answered_last q ns a (without_other lacks n d r.0 ∙ b) (r.1 ∙ e) s f g
 less_at n d ms p sends lacks v w (inr r) (apart a b e g) = apart a (without_other lacks n d r.0 ∙ b) (r.1 ∙ e) g
 
-lacking_at : (ts c d : ℕ) (x : Exchange) (dms : List ℕ) (w : Turn) → IsStrict (firsts x.modules)
-    → IsAt d x.modules x.phase x.to_send dms w → IsAtTurn d (lacking ts c x dms) w
-lacking_at ts c d x [] w h i = ended_at ts c d (record x { lacks = [] }) x.phase w h refl i refl
-lacking_at ts c d x (y ∷ dms) w h i = i
+on_answer_at : (ts c d : ℕ) (x : Exchange) (dms : List ℕ) (w : Turn) → IsStrict (firsts x.modules)
+    → IsAt d x.modules x.phase x.to_send dms w → IsAtTurn d (on_answer ts c x dms) w
+on_answer_at ts c d x [] w h i = ended_at ts c d (record x { lacks = [] }) x.phase w h refl i refl
+on_answer_at ts c d x (y ∷ dms) w h i = i
 
 answered_at : (ts c n d : ℕ) (x : Exchange) (v w : Turn) → IsStrict (firsts x.modules) → IsNext n d v w → IsAtTurn d x v → IsAtTurn d (answered ts c n x) w
-answered_at ts c n d x v w h r i = lacking_at ts c d x (without x.lacks n) w h (less_at n d x.modules x.phase x.to_send x.lacks v w r i)
+answered_at ts c n d x v w h r i = on_answer_at ts c d x (without x.lacks n) w h (less_at n d x.modules x.phase x.to_send x.lacks v w r i)
 
 answered_if : (ts c n d : ℕ) (b : Bool) (x y : Exchange) (v w : Turn) → b ≡ true → IsStrict (firsts y.modules) → IsNext n d v w
     → IsAtTurn d y v → IsAtTurn d (if b then answered ts c n y else x) w

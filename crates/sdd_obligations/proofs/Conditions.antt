@@ -1,6 +1,6 @@
 -- The conditions of a READ are on classes of the catalogue.
-use Rattle.sdd_obligations.proofs.All.{Act, All, All-cons, All-nil, AllLt, Catalogue, ClassNo, Cond, Each, FitsCond, IsFair, IsRead, List, Msg, None, Option, Queued, Read, Setting, Site, Some, Ts, TxnNo, Use, [], arith, conditions_at, cons_option, each_at, filter_map, if_way, in_none, in_one, inl, inr, length, map, puts_to, range_with_len, sends_of_act, slice_get, start_at, start_puts, start_read, subst, suc, to_site, was_put, zero, ℕ, ◌+◌, ◌<◌, ◌^◌, ◌∷◌, ◌≡◌, ◌≤◌}
-use Rattle.sdd_invariants.specs.All.{asked_by}
+use Rattle.sdd_obligations.proofs.All.{Act, All, All-cons, All-nil, AllLt, Catalogue, ClassNo, Cond, Each, FitsCond, FragNo, IsFair, IsRead, List, Msg, None, Option, Queued, Read, Setting, Site, Some, Ts, TxnNo, Use, [], arith, by_condition, cond_of, condition_on, conditions, conditions_at, cons_option, each_at, filter_map, frag_no, fragments_of, if_way, in_none, in_one, inl, inr, is_asked, length, map, puts_to, range_with_len, sends_of_act, slice_get, start_at, start_puts, start_read, subst, suc, to_site, undeclared_conditions, was_put, zero, ℕ, ◌+◌, ◌<◌, ◌^◌, ◌∷◌, ◌≡◌, ◌≤◌, ◌==◌}
+use Rattle.sdd_invariants.specs.All.{P2, P3, asked_by, classes_of, cond_for}
 use Rattle.sdd_invariants.specs.site_module.SiteLog.{Log}
 use Rattle.sdd_invariants.proofs.ReadsPut.{put_by}
 use Rattle.sdd_invariants.specs.protocol.declared.entry.Entry as line
@@ -37,11 +37,20 @@ range_le : (a n k : ℕ) → 1 ≤ a → a + n ≤ suc k → AllFrom1 k (range_w
 range_le a zero k m l = tt
 range_le a (suc n) k m l = ((m, omega (arith, l)), range_le (a + 1) n k (omega (arith, m)) (omega (arith, l)))
 
+cond_within : (n j t : ℕ) (frags : List FragNo) → IsFrom1 n j → IsWithin n (cond_for j t frags)
+cond_within n j t [] h = tt
+cond_within n j t (f ∷ frags) h = h
+
 conditions_within : (cat : Catalogue) (table : List line.Entry) (c : ℕ) (frags : List ℕ) (own p2 d : ℕ)
     → AllWithin (length cat.classes) (conditions_at cat table c frags own p2 d)
 conditions_within cat table c frags own p2 d =
     let n : ℕ = length cat.classes in
-    grind (arith, if_way, mapped_within, made_within, asked_by, range_le 1 n n (omega arith) (omega arith))
+    let classes : AllFrom1 n (classes_of cat) = range_le 1 n n (omega arith) (omega arith) in
+    let test = is_asked cat c d (map frag_no frags) in
+    if_way (AllWithin n) (c == 0) (undeclared_conditions cat own) (conditions cat table c d (map frag_no frags) own p2)
+    (mapped_within n (λ j. cond_of j own (map frag_no (fragments_of cat))) (classes_of cat) (λ j h. h) classes)
+    (made_within n (condition_on test table c own p2) (classes_of cat)
+    (λ j h. by_condition test table c own p2 j (IsWithin n) tt (cond_within n j p2 (asked_by P2 test table c j) h) (cond_within n j own (asked_by P3 test table c j) h)) classes)
 
 -- of a READ that was put
 

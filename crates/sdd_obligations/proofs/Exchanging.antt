@@ -1,5 +1,5 @@
 -- The rows that came to an exchange are those that the modules hold.
-use Rattle.sdd_obligations.proofs.All.{Asking, AwaitsNoValues, Bool, ClassNo, Exchange, Fetch, Fetching, Follows, Frozen, Has, Has-append, Has-left, Has-right, KeepsOnce, List, Move, Msg, None, Over, Phase, Read, Reading, Ready, Reduce, Reduced, Reducing, Replies, Row, Rows, Ship, Shipping, Some, Space, Step, Stmt, Tells, TellsAll, Ts, Value, Values, [], after_hand, after_send, all_rows, answered, ap, arith, contains, counted, counts_for, eqb-true, false, fetches, fetches_from, follows_hand, follows_send, goes_on, if◌then◌else◌, inl, inr, is_a_read, is_a_refusal, is_a_ship, is_answer, is_shipped, lack_modules, lacking, length, move_at, never, next_move, phase_ends, question, question_of, refl, rows_of, subst, sym, tells_all, true, true_or_false, values_in, with_use, with_values, without, ℕ, ◌&&◌, ◌++◌, ◌+◌, ◌==◌, ◌∙◌, ◌∷◌, ◌≡◌}
+use Rattle.sdd_obligations.proofs.All.{Asking, AwaitsNoValues, Bool, ClassNo, Exchange, Fetch, Fetching, Follows, Frozen, Has, Has-append, Has-left, Has-right, KeepsOnce, List, Move, Msg, None, Over, Phase, Read, Reading, Ready, Reduce, Reduced, Reducing, Replies, Row, Rows, Ship, Shipping, Some, Space, Step, Stmt, Tells, TellsAll, Ts, Value, Values, [], after_hand, after_send, all_rows, answered, ap, arith, contains, counted, counts_for, eqb-true, false, fetches, fetches_from, follows_hand, follows_send, goes_on, if◌then◌else◌, inl, inr, is_a_read, is_a_refusal, is_a_ship, is_answer, is_shipped, lack_modules, length, move_at, never, next_move, on_answer, phase_ends, question, question_of, refl, rows_of, subst, sym, tells_all, true, true_or_false, values_in, with_use, with_values, without, ℕ, ◌&&◌, ◌++◌, ◌+◌, ◌==◌, ◌∙◌, ◌∷◌, ◌≡◌}
 use Rattle.sdd_obligations.proofs.AtTurn.{awaits}
 use Rattle.sdd_obligations.proofs.Modules.{firsts, without_other}
 
@@ -54,7 +54,7 @@ end_ships : (ts c : ℕ) (x : Exchange) (p : Phase) → x.phase ≡ p → is_shi
 end_ships ts c x (Fetching m) e f = λ s. cc
 end_ships ts c x p e f = grind (arith, next_ships)
 
-lack_ships : (ts c : ℕ) (x : Exchange) (dms : List ℕ) → is_shipped x.phase ≡ false → ShipsAll (lacking ts c x dms)
+lack_ships : (ts c : ℕ) (x : Exchange) (dms : List ℕ) → is_shipped x.phase ≡ false → ShipsAll (on_answer ts c x dms)
 lack_ships ts c x [] f = end_ships ts c (record x { lacks = [] }) x.phase refl f
 lack_ships ts c x (d ∷ dms) f = λ s. never (is_shipped x.phase) s f
 
@@ -80,7 +80,7 @@ end_found ts c x Reading = next_found ts c x x.left x.done
 end_found ts c x (Reducing m) = next_found ts c x x.left x.done
 end_found ts c x _ = refl
 
-lack_found : (ts c : ℕ) (x : Exchange) (dms : List ℕ) → (lacking ts c x dms).found ≡ x.found
+lack_found : (ts c : ℕ) (x : Exchange) (dms : List ℕ) → (on_answer ts c x dms).found ≡ x.found
 lack_found ts c x [] = end_found ts c (record x { lacks = [] }) x.phase
 lack_found ts c x (d ∷ dms) = refl
 
@@ -129,7 +129,7 @@ module _ (dms : List ℕ) (statements : List Stmt) (asked : ℕ → ℕ → Bool
           | inr other ↦ Has-left x.found rows s (h.all (ap is_shipped p) d k (sym (without_other x.lacks n d other) ∙ ap (λ z. contains z d) e ∙ l) s i)
         ]
 
-        by : (ls : List ℕ) → without x.lacks n ≡ ls → Follows dms statements asked first space (lacking ts c y ls) → Serving space (lacking ts c y ls)
+        by : (ls : List ℕ) → without x.lacks n ≡ ls → Follows dms statements asked first space (on_answer ts c y ls) → Serving space (on_answer ts c y ls)
         by [] e g =
             let over : phase_ends ts c (record y { lacks = [] }) x.phase ≡ record y {
               lacks = [];

@@ -1,5 +1,5 @@
 -- An attempt sends to data modules of the catalogue alone.
-use Rattle.sdd_obligations.proofs.All.{Act, All, All-get_or, All-nil, Asking, Attempt, Bool, Catalogue, D, Did, Each, Exchange, Fetching, Handed, IsFair, IsStep, IsWhole, List, Move, Msg, None, Option, Over, Phase, Queued, ReadPlace, Ready, Reduced, Rows, Setting, Shipping, Site, Some, Step, Values, [], active, active_handed, after_hand, answered, arith, ascending, class_at, cond, cons_option, contains, counted, dm_no, false, fetches_from, filter_map, find, fold, found_in_all, get_or_past, goes_on, head_of, if_way, if◌then◌else◌, insert_key, lacking, length, lower_same_higher, map, module_read, modules_asked, modules_of, nat_cmp, next_stamp, numbers_to, option_map, phase_ends, queue, range_with_len, reads_at, reduces, refl, rejects, sends_of_act, ships, start_at, start_read, started, step_way, subst, suc, to_all, true, with_use, with_values, without, zero, ℕ, ◌&&◌, ◌++◌, ◌+◌, ◌-◌, ◌==◌, ◌∷◌, ◌≡◌, ◌≤◌}
+use Rattle.sdd_obligations.proofs.All.{Act, All, All-get_or, All-nil, Asking, Attempt, Bool, Catalogue, D, Did, Each, Exchange, Fetching, Handed, IsFair, IsStep, IsWhole, List, Move, Msg, None, Option, Over, Phase, Queued, ReadPlace, Ready, Reduced, Rows, Setting, Shipping, Site, Some, Step, Values, [], active, active_handed, after_hand, answered, arith, ascending, class_at, cond, cons_option, contains, counted, dm_no, false, fetches_from, filter_map, find, fold, found_in_all, get_or_past, goes_on, head_of, if_way, if◌then◌else◌, insert_key, length, lower_same_higher, map, module_read, modules_asked, modules_of, nat_cmp, next_stamp, numbers_to, on_answer, option_map, phase_ends, queue, range_with_len, reads_at, reduces, refl, rejects, sends_of_act, ships, start_at, start_read, started, step_way, subst, suc, to_all, true, with_use, with_values, without, zero, ℕ, ◌&&◌, ◌++◌, ◌+◌, ◌-◌, ◌==◌, ◌∷◌, ◌≡◌, ◌≤◌}
 use Rattle.sdd_invariants.specs.catalog.Numbers.{IsServed}
 use Rattle.sdd_invariants.specs.site_module.SiteLog.{Log}
 
@@ -62,12 +62,12 @@ ends_near n ts c x Shipping h = record { modules = h.modules; sends = h.sends }
 ends_near n ts c x Over h = h
 ends_near n ts c x _ h = on_near n ts c x x.left x.done h
 
-lacking_near : (n ts c : ℕ) (x : Exchange) (dms : List ℕ) → IsNearBy n x → IsNearBy n (lacking ts c x dms)
-lacking_near n ts c x [] h = ends_near n ts c (record x { lacks = [] }) x.phase (record { modules = h.modules; sends = h.sends })
-lacking_near n ts c x (d ∷ dms) h = record { modules = h.modules; sends = h.sends }
+on_answer_near : (n ts c : ℕ) (x : Exchange) (dms : List ℕ) → IsNearBy n x → IsNearBy n (on_answer ts c x dms)
+on_answer_near n ts c x [] h = ends_near n ts c (record x { lacks = [] }) x.phase (record { modules = h.modules; sends = h.sends })
+on_answer_near n ts c x (d ∷ dms) h = record { modules = h.modules; sends = h.sends }
 
 answered_near : (n ts c d : ℕ) (b : Bool) (x y : Exchange) → IsNearBy n x → IsNearBy n y → IsNearBy n (if b then answered ts c d y else x)
-answered_near n ts c d true x y h k = lacking_near n ts c y (without y.lacks d) k
+answered_near n ts c d true x y h k = on_answer_near n ts c y (without y.lacks d) k
 answered_near n ts c d false x y h k = h
 
 hand_near : (n ts c d : ℕ) (m : Msg) (x : Exchange) → IsNearBy n x → IsNearBy n (after_hand ts c d m x)

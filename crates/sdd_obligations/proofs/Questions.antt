@@ -1,5 +1,5 @@
 -- The questions that an exchange puts are those of its phase.
-use Rattle.sdd_obligations.proofs.All.{AllByRecursion, Asking, Asks, AsksPhase, Bool, Exchange, List, MayAnswer, Move, Msg, Phase, Ready, Reduced, Reject, Replies, Rows, Shipping, Step, Turn, Value, Values, [], after_hand, answered, ap, arith, contains, counted, false, fetches_from, goes_on, if◌then◌else◌, is_a_refusal, is_answer, lacking, length, map, never, phase_ends, question, question_of, reduces, refl, subst, sym, to_all, true, turn_after_answer, with_use, with_values, without, ℕ, ◌&&◌, ◌++◌, ◌+◌, ◌==◌, ◌∙◌, ◌∷◌, ◌≡◌}
+use Rattle.sdd_obligations.proofs.All.{AllByRecursion, Asking, Asks, AsksPhase, Bool, Exchange, List, MayAnswer, Move, Msg, Phase, Ready, Reduced, Reject, Replies, Rows, Shipping, Step, Turn, Value, Values, [], after_hand, answered, ap, arith, contains, counted, false, fetches_from, goes_on, if◌then◌else◌, is_a_refusal, is_answer, length, map, never, on_answer, phase_ends, question, question_of, reduces, refl, subst, sym, to_all, true, turn_after_answer, with_use, with_values, without, ℕ, ◌&&◌, ◌++◌, ◌+◌, ◌==◌, ◌∙◌, ◌∷◌, ◌≡◌}
 use Rattle.sdd_obligations.proofs.AtTurn.{IsAtTurn, awaits}
 use Rattle.sdd_obligations.proofs.HandedAnswersKeepTurns.{answers_asked, is_awaited}
 use Rattle.sdd_obligations.proofs.Modules.{without_other}
@@ -46,7 +46,7 @@ module _ (ts c n : ℕ) (m : Msg) (v : ℕ → Turn) where
   module _ (x y : Exchange) (at_turn : (d : ℕ) → IsAtTurn d x (v d)) (lacks_are : y.lacks ≡ x.lacks)
       (same : question_of ts c x ≡ question_of ts c y) (sends : SendsPhase ts c y)
       (h : AsksPhase ts c x v) where
-    lack_asks : (dms : List ℕ) → without y.lacks n ≡ dms → AsksPhase ts c (lacking ts c y dms) w
+    lack_asks : (dms : List ℕ) → without y.lacks n ≡ dms → AsksPhase ts c (on_answer ts c y dms) w
     lack_asks [] e = record {
       sends = sends_end ts c (record y { lacks = [] }) y.phase refl sends;
       asked = λ d ns q a r.

@@ -1,7 +1,7 @@
 -- What a READ says: its conditions are on classes of the catalogue and ascend by class, its uses ascend by number, and its
 -- module has copies of their fragments.
-use Rattle.sdd_obligations.proofs.All.{Act, All-from_recursion, AllByRecursion, AllGt, AllLe, Bool, Catalogue, Cond, Condition, D, Delete, Did, DmNo, Each, FragNo, Hand, Input, IsFair, IsHere, IsPermitted, IsReadable, IsStep, IsStrict, List, Msg, Option, Put, Query, Queued, Read, RelNo, Setting, Site, Some, Stmt, Update, Use, [], ap, arith, ascending, both, bound, commit_puts, cond, cond_of, condition_on, conditions, conditions_at, cons_option, current_era, dm_no, each_at, eqb-true, false, filter, filter_map, frag_no, fragments_in, fragments_of, gt_down, hand_was_put, handed, has_copy, home, home_fair, if_way, in_if, in_none, in_one, is_a_read, is_asked, is_read_at, length, local_of, map, modules_asked, never, next_stamp, option_eq, part_uses, puts_to, range_with_len, reads_at, refl, same_number, sends_of_act, served_read, setting_of, slice_get, start_read, statement_uses, step_way, subst, suc, sym, the_one, to_site, true, undeclared_conditions, use_there, uses_from, uses_of, was_put, with_frags, zero, ℕ, ◌&&◌, ◌++◌, ◌+◌, ◌<◌, ◌==◌, ◌∙◌, ◌∷◌, ◌≡◌, ◌≤◌}
-use Rattle.sdd_obligations.proofs.Ascending.{condition_class, conditions_strict, strict_ascends}
+use Rattle.sdd_obligations.proofs.All.{Act, All-from_recursion, AllByRecursion, AllGt, AllLe, Bool, Catalogue, Cond, Condition, D, Delete, Did, DmNo, Each, FragNo, Hand, Input, IsFair, IsHere, IsPermitted, IsReadable, IsStep, IsStrict, List, Msg, Option, Put, Query, Queued, Read, RelNo, Setting, Site, Some, Stmt, Update, Use, [], ap, arith, ascending, both, bound, commit_puts, cond, cond_of, condition_class, condition_on, conditions, conditions_at, cons_option, current_era, dm_no, each_at, eqb-true, false, filter, filter_map, frag_no, fragments_in, fragments_of, gt_down, hand_was_put, handed, has_copy, home, home_fair, if_way, in_if, in_none, in_one, is_a_read, is_asked, is_read_at, length, local_of, map, modules_asked, never, next_stamp, option_eq, part_uses, puts_to, range_with_len, reads_at, refl, same_number, sends_of_act, served_read, setting_of, slice_get, start_read, statement_uses, step_way, subst, suc, sym, the_one, to_site, true, undeclared_conditions, use_there, uses_from, uses_of, was_put, with_frags, zero, ℕ, ◌&&◌, ◌++◌, ◌+◌, ◌<◌, ◌==◌, ◌∙◌, ◌∷◌, ◌≡◌, ◌≤◌}
+use Rattle.sdd_obligations.proofs.Ascending.{conditions_strict, strict_ascends}
 use Rattle.sdd_obligations.proofs.QuestionsComeInTurn.{strict_asked}
 use Rattle.sdd_obligations.proofs.FirstSends.{IsFirstEach, IsFirstSend}
 use Rattle.sdd_obligations.proofs.Modules.{sent_to_each}

@@ -1,7 +1,7 @@
 -- What a site that runs transactions sends lies below its clock's height.
-use Rattle.sdd_obligations.proofs.All.{Act, AllLe, AllLow, Attempt, Bases, Catalogue, Cond, D, Each, Hold, HoldRule, IsFair, IsLow, IsStepU, List, Msg, None, Option, Queued, Sends, Setting, Site, T, TmNo, [], active, arith, ascending, bound, clock, clock_number, commit_act, commit_puts, cond_of, condition_on, conditions_at, current_era, dm_no, drawn, drawn_at, frag_no, fragments_in, fragments_of, hold_rule, if_way, inl, inr, is_asked, last_served, last_stamp, limit_le, map, next_stamp, number_of, refl, same_site, sends_of_act, stamp_or, stamp_rises, start_at, start_puts, start_read, starts_by, step_way, suc, t_step, tm_no, to_site, top, ts_of, u_way, uses_of, ℕ, ◌+◌, ◌==◌, ◌∷◌, ◌≡◌, ◌≤◌}
-use Rattle.sdd_obligations.proofs.LowLists.{all_low_up, conds_all_le, conds_le, low_one}
-use Rattle.sdd_invariants.specs.All.{asked_by, classes_of}
+use Rattle.sdd_obligations.proofs.All.{Act, AllLe, AllLow, Attempt, Bases, Catalogue, Cond, D, Each, FragNo, Hold, HoldRule, IsFair, IsLow, IsStepU, List, Msg, None, Option, Queued, Sends, Setting, Site, T, TmNo, [], active, arith, ascending, bound, by_condition, clock, clock_number, commit_act, commit_puts, cond_of, condition_on, conditions_at, current_era, dm_no, drawn, drawn_at, frag_no, fragments_in, fragments_of, hold_rule, if_way, inl, inr, is_asked, last_served, last_stamp, limit_le, map, next_stamp, number_of, refl, same_site, sends_of_act, stamp_or, stamp_rises, start_at, start_puts, start_read, starts_by, step_way, suc, t_step, tm_no, to_site, top, ts_of, u_way, uses_of, ℕ, ◌+◌, ◌==◌, ◌∷◌, ◌≡◌, ◌≤◌}
+use Rattle.sdd_obligations.proofs.LowLists.{IsEarlyCond, all_low_up, conds_all_le, conds_le, low_one}
+use Rattle.sdd_invariants.specs.All.{P2, P3, asked_by, classes_of, cond_for}
 use Rattle.sdd_invariants.specs.site_module.SiteLog.{Log}
 use Rattle.sdd_invariants.specs.protocol.declared.entry.Entry as line
 use Rattle.sdd_invariants.specs.tm.Due as tm
@@ -12,12 +12,17 @@ use Rattle.sdd_invariants.specs.tm.Views as tm_views
 abbrev AreEarly : ℕ → List Cond → Type 0
 AreEarly k ds = AllLe k (map (λ (d : Cond). d.time.0) ds)
 
+cond_le : (k j t : ℕ) (frags : List FragNo) → t ≤ k → IsEarlyCond k (cond_for j t frags)
+cond_le k j t [] l = tt
+cond_le k j t (f ∷ frags) l = l
+
 conditions_le : (k : ℕ) (cat : Catalogue) (table : List line.Entry) (c : ℕ) (frags : List ℕ) (own p2 d : ℕ) → own ≤ k → p2 ≤ k
     → AreEarly k (conditions_at cat table c frags own p2 d)
 conditions_le k cat table c frags own p2 d l m =
     if_way (AreEarly k) (c == 0) _ _ (conds_all_le k (λ j. cond_of j own (map frag_no (fragments_of cat))) (classes_of cat) (λ j. l))
-    (conds_le k (condition_on (is_asked cat c d (map frag_no frags)) table c own p2) (classes_of cat)
-    (λ j. (grind (arith, asked_by))))
+    (let test = is_asked cat c d (map frag_no frags) in
+    conds_le k (condition_on test table c own p2) (classes_of cat)
+    (λ j. by_condition test table c own p2 j (IsEarlyCond k) tt (cond_le k j p2 (asked_by P2 test table c j) m) (cond_le k j own (asked_by P3 test table c j) l)))
 
 read_low : (h : ℕ) (s : Setting) (c : ℕ) (log : Log) (q : Queued) (d : ℕ) → number_of s.site ≤ 63 → (clock s.site log).ticks ≤ h
     → IsLow (suc h) (start_read s c log q d)

@@ -1,5 +1,5 @@
 -- With the last ROWS the rows that came serve the database of the attempt's snapshots.
-use Rattle.sdd_obligations.proofs.All.{Attempt, Catalogue, ClassNo, CopyRows, D, DmNo, Exchange, FitsInput, FitsText, Hand, Handed, Has-flat_map, Has-flat_map_from, HasCopies, HasEras, Input, IsPermitted, List, Log, Msg, None, Over, Row, Rows, Serves, ServesIfLast, Setting, Shipping, Site, Some, Space, Ts, [], active, active_handed, after_hand, all_new, all_rows, answered, ap, base_of, before_answer, both, contains, contents, copies_read, dated, dm_no, exchange_serves, frozen_space, home, home_fair, if◌then◌else◌, is_over, is_shipped, lacking, length, local_of, local_step, modules_asked, phase_ends, refl, same_number, serves_by_members, setting_of, site_self, stage_of, subst, with_made, without, ℕ, ◌++◌, ◌+◌, ◌==◌, ◌∙◌, ◌∷◌, ◌≡◌, ◌≤◌}
+use Rattle.sdd_obligations.proofs.All.{Attempt, Catalogue, ClassNo, CopyRows, D, DmNo, Exchange, FitsInput, FitsText, Hand, Handed, Has-flat_map, Has-flat_map_from, HasCopies, HasEras, Input, IsPermitted, List, Log, Msg, None, Over, Row, Rows, Serves, ServesIfLast, Setting, Shipping, Site, Some, Space, Ts, [], active, active_handed, after_hand, all_new, all_rows, answered, ap, base_of, before_answer, both, contains, contents, copies_read, dated, dm_no, exchange_serves, frozen_space, home, home_fair, if◌then◌else◌, is_over, is_shipped, length, local_of, local_step, modules_asked, on_answer, phase_ends, refl, same_number, serves_by_members, setting_of, site_self, stage_of, subst, with_made, without, ℕ, ◌++◌, ◌+◌, ◌==◌, ◌∙◌, ◌∷◌, ◌≡◌, ◌≤◌}
 use Rattle.sdd_obligations.proofs.HandedAnswersKeepTurns.{is_awaited}
 use Rattle.sdd_obligations.proofs.Texts.{active_so, submitted_fit}
 use Rattle.sdd_obligations.proofs.Copied.{copies_are}
@@ -27,7 +27,7 @@ last_rows : (ts c n : ℕ) (x : Exchange) (t : Ts) (k : ClassNo) (rows : List (�
 last_rows ts c n x t k rows own of p e =
     let y : Exchange = record x { found = x.found ++ rows; rows = x.rows + length rows } in
     ap (λ b. if b then answered ts c n y else x) (both (t.0 == ts) (k.0 == c) (ap (λ z. z == ts) own ∙ same_number ts) (ap (λ z. z == c) of ∙ same_number c))
-    ∙ ap (lacking ts c y) e ∙ ap (phase_ends ts c (record y { lacks = [] })) p
+    ∙ ap (on_answer ts c y) e ∙ ap (phase_ends ts c (record y { lacks = [] })) p
 
 module _ (g : Input) (good : FitsInput g) (eras : HasEras g) (c : ℕ) where
   abbrev cat : Catalogue

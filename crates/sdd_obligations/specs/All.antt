@@ -9,7 +9,7 @@ pub use Rattle.sdd_obligations.specs.Turns.{Asks, MayAnswer, Replies, Turn, answ
 pub use Rattle.sdd_obligations.specs.attempt.Acts.{attempt_due, commit_act, conditions_at, write_to}
 pub use Rattle.sdd_obligations.specs.attempt.Attempts.{Attempt, active, active_after, active_handed, active_sent, asks_rows, rejects, started}
 pub use Rattle.sdd_obligations.specs.attempt.Clocks.{clock}
-pub use Rattle.sdd_obligations.specs.attempt.Exchange.{Asking, Exchange, Fetching, Over, Phase, Reading, Reducing, Shipping, after_hand, after_send, answered, askings, begins, count_of, counted, counts_for, fetches, fetches_from, first_phase, first_send, goes_on, is_over, lacking, module_read, move_at, phase_ends, reduces, send_due, ships, with_use, without}
+pub use Rattle.sdd_obligations.specs.attempt.Exchange.{Asking, Exchange, Fetching, Over, Phase, Reading, Reducing, Shipping, after_hand, after_send, answered, askings, begins, count_of, counted, counts_for, fetches, fetches_from, first_phase, first_send, goes_on, is_over, module_read, move_at, on_answer, phase_ends, reduces, send_due, ships, with_use, without}
 pub use Rattle.sdd_obligations.specs.attempt.Fits.{is_read, uses_at}
 pub use Rattle.sdd_obligations.specs.attempt.Queues.{Queued, is_for, queue, tried}
 pub use Rattle.sdd_obligations.specs.attempt.Standings.{standing_among}

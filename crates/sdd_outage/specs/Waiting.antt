@@ -1,7 +1,7 @@
 -- Which classes wait for which.
 use Rattle.std.specs.Prelude.{ℕ, ◌&&◌, Bool, false, true, List}
 use Rattle.std.specs.List.{list_any}
-use Rattle.sdd_protocol.specs.DiagonalIndex.{is_between}
+use Rattle.sdd_protocol.specs.Protocols.{is_between}
 use Rattle.sdd_protocol.specs.declared.entry.Entry.{Entry}
 use Rattle.sdd_protocol.specs.declared.protocol.Protocol.{Protocol}
 use Rattle.sdd_protocol.specs.declared.protocol.Protocol.TheVariants.{P1, P2, P3}

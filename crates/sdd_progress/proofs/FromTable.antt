@@ -1,6 +1,6 @@
 -- The conditions of a READ of a declared class come from the table that was in force at its Start.
 use Rattle.std.proofs.Common.{arith}
-use Rattle.sdd_progress.proofs.AllWaits.{AllDiagonalsIn, AreConditionsOf, Bool, Catalogue, ClassNo, Cond, D, Diagonal, DmNo, Does, Edge, FragNo, Input, IsFromTable, IsPermitted, IsPutAt, IsRead, List, Log, Msg, None, Option, P2, P3, Protocol, Queued, Read, Setting, Site, Some, Ts, TxnNo, Use, [], all_of, and_left, and_right, ap, ascending, asked_by, asked_in, asked_on, bound, class_number, class_puts, cond, cond_for, condition_on, conditions_at, current_era, eqb-true, era_there, fragments_in, home, in_filter_mapped, in_left, in_none, in_one, in_pipe, inl, inr, local_of, next_stamp, nth_era, option_or, origin, pipe_at, redeclares, refl, same_or_not, same_protocol, sends_of_act, setting_of, slice_get, start_at, start_puts, start_read, subst, sym, to_site, true, uses_of, ℕ, ◌++◌, ◌∙◌, ◌∷◌, ◌≡◌, ◌≢◌, ◌⊎◌}
+use Rattle.sdd_progress.proofs.AllWaits.{AllDiagonalsIn, AreConditionsOf, Bool, Catalogue, ClassNo, Cond, D, Diagonal, DmNo, Does, Edge, FragNo, Input, IsFromTable, IsPermitted, IsPutAt, IsRead, List, Log, Msg, None, Option, P2, P3, Protocol, Queued, Read, Setting, Site, Some, Ts, TxnNo, Use, [], all_of, and_left, and_right, ap, ascending, asked_by, asked_in, asked_on, bound, class_number, class_puts, cond, condition_is, condition_on, conditions_at, current_era, eqb-true, era_there, fragments_in, home, in_filter_mapped, in_left, in_none, in_one, in_pipe, inl, inr, local_of, next_stamp, nth_era, origin, pipe_at, redeclares, refl, same_or_not, same_protocol, sends_of_act, setting_of, slice_get, start_at, start_puts, start_read, subst, sym, to_site, true, uses_of, ℕ, ◌++◌, ◌∙◌, ◌∷◌, ◌≡◌, ◌≢◌}
 use Rattle.sdd_obligations.specs.protocol.declared.entry.Entry as line
 use Rattle.sdd_obligations.specs.site_module.SiteLog as site
 
@@ -32,32 +32,13 @@ diagonals table protocol test i j k f e =
     let a = asked_edge test i j m.1.edge f p.1 in
     record { place = m.0; entry = m.1; there = m.2; reader = a.reader; writer = a.writer; edge_is = a.is; reader_is = a.reader_is; writer_is = a.writer_is; protocol_is = (grind arith) }
 
--- a condition for fragments
-
-pub record IsFor (j t : ℕ) (frags : List FragNo) (q : Cond) : Type 0 where
-  pub first : FragNo
-  pub more : List FragNo
-  pub some : frags ≡ first ∷ more
-  pub class_is : q.class.0 ≡ j
-  pub time_is : q.time.0 ≡ t
-  pub frags_are : q.frags ≡ frags
-
-for_is : (j t : ℕ) (frags : List FragNo) (q : Cond) → cond_for j t frags ≡ Some q → IsFor j t frags q
-for_is j t frags q e = grind arith
-
-either_some : (a b : Option Cond) (q : Cond) → option_or a b ≡ Some q → (a ≡ Some q) ⊎ (b ≡ Some q)
-either_some a b q e = grind arith
+-- a condition comes from the diagonals of the protocol that asks it
 
 on_class : (table : List line.Entry) (test : ℕ → Bool) (i own p2 j : ℕ) (q : Cond) → condition_on test table i own p2 j ≡ Some q → IsFromTable table i own p2 q
-on_class table test i own p2 j q e =
-    let thirds : List FragNo = asked_by P3 test table i j in
-    let seconds : List FragNo = asked_by P2 test table i j in
-    elim (either_some (cond_for j own thirds) (cond_for j p2 seconds) q e) [
-      | inl p ↦ (let f = for_is j own thirds q p in
-          record { first = f.first; more = f.more; names = f.frags_are ∙ f.some; by = inl (f.time_is, (subst (λ k. AllDiagonalsIn table P3 i k q.frags) (sym f.class_is) (subst (AllDiagonalsIn table P3 i j) (sym f.frags_are) (diagonals table P3 test i j)))) })
-      | inr p ↦ (let f = for_is j p2 seconds q p in
-          record { first = f.first; more = f.more; names = f.frags_are ∙ f.some; by = inr (f.time_is, (subst (λ k. AllDiagonalsIn table P2 i k q.frags) (sym f.class_is) (subst (AllDiagonalsIn table P2 i j) (sym f.frags_are) (diagonals table P2 test i j)))) })
-    ]
+on_class table test i own p2 j q e = elim (condition_is test table i own p2 j q e) [
+  | inl a ↦ subst (IsFromTable table i own p2) (sym a.is) (record { first = a.first; more = a.more; names = a.some; by = inl (refl, diagonals table P3 test i j) })
+  | inr a ↦ subst (IsFromTable table i own p2) (sym a.is) (record { first = a.first; more = a.more; names = a.some; by = inr (refl, diagonals table P2 test i j) })
+]
 
 pub from_table : (cat : Catalogue) (table : List line.Entry) (c : ℕ) (frags : List ℕ) (own p2 d k : ℕ) (q : Cond) → c ≢ 0
     → slice_get (conditions_at cat table c frags own p2 d) k ≡ Some q → IsFromTable table c own p2 q

@@ -1,5 +1,5 @@
 -- Every step of the exchange of an active attempt leaves it over, or lacking an answer.
-use Rattle.sdd_progress.proofs.All.{AllAskParts, Asking, AtTurn, Attempt, Bool, CountsRead, D, Did, Each, Exchange, Fetching, Handed, InTurn, IsCounted, IsFair, IsFirstEach, IsGoing, IsRead, IsTimely, List, Move, Msg, None, Option, Over, Phase, Queued, Ready, Rec, Records, Reduced, ReducesRead, Replies, Rows, Sends, Setting, Shipping, Site, Some, Step, Values, [], active, active_after, active_handed, active_sent, after_hand, answered, answers_asked, ap, arith, askings, awaits, cond, cons_option, contains, contains_either, counted, counts_for, dm_no, eqb-true, false, fetches, fetches_from, filter, filter_map, goes_on, if_way, if◌then◌else◌, in_turn, inl, inr, is_answer, is_awaited, is_empty, is_over, lacking, length, map, move_at, never, next_move, not, or_left, or_right, phase_ends, queue, readers, reduces, refl, rejects, same_number, ships, subst, sym, true, turn_at, uses_at, with_use, with_values, ℕ, ◌&&◌, ◌++◌, ◌+◌, ◌==◌, ◌∙◌, ◌∷◌, ◌≡◌}
+use Rattle.sdd_progress.proofs.All.{AllAskParts, Asking, AtTurn, Attempt, Bool, CountsRead, D, Did, Each, Exchange, Fetching, Handed, InTurn, IsCounted, IsFair, IsFirstEach, IsGoing, IsRead, IsTimely, List, Move, Msg, None, Option, Over, Phase, Queued, Ready, Rec, Records, Reduced, ReducesRead, Replies, Rows, Sends, Setting, Shipping, Site, Some, Step, Values, [], active, active_after, active_handed, active_sent, after_hand, answered, answers_asked, ap, arith, askings, awaits, cond, cons_option, contains, contains_either, counted, counts_for, dm_no, eqb-true, false, fetches, fetches_from, filter, filter_map, goes_on, if_way, if◌then◌else◌, in_turn, inl, inr, is_answer, is_awaited, is_empty, is_over, length, map, move_at, never, next_move, not, on_answer, or_left, or_right, phase_ends, queue, readers, reduces, refl, rejects, same_number, ships, subst, sym, true, turn_at, uses_at, with_use, with_values, ℕ, ◌&&◌, ◌++◌, ◌+◌, ◌==◌, ◌∙◌, ◌∷◌, ◌≡◌}
 use Rattle.sdd_progress.proofs.Lists.{either}
 use Rattle.sdd_progress.proofs.Moves.{move_reads}
 use Rattle.sdd_obligations.specs.site_module.SiteLog.{Log}
@@ -41,7 +41,7 @@ ended ts c x Shipping k e = record { counted = record { modules = λ z. cc; redu
 ended ts c x Over k e = record { counted = k; lacks = λ z. never (is_over x.phase) (ap is_over e) z }
 ended ts c x y k e = to_next ts c x x.left x.done ((k.modules (ap is_over e ∙ refl), k.counts, k.left)) k.left
 
-lacks_now : (ts c : ℕ) (x : Exchange) (dms : List ℕ) → IsCounted x → IsGoing (lacking ts c x dms)
+lacks_now : (ts c : ℕ) (x : Exchange) (dms : List ℕ) → IsCounted x → IsGoing (on_answer ts c x dms)
 lacks_now ts c x [] k = ended ts c (record x { lacks = [] }) x.phase (grind (arith, reduces)) refl
 lacks_now ts c x (d ∷ dms) k = record { counted = record { modules = k.modules; reduces = k.reduces; counts = k.counts; left = k.left }; lacks = λ e. refl }
 

@@ -1,5 +1,5 @@
 -- A read condition names another class than the attempt's own.
-use Rattle.sdd_progress.proofs.All.{All-contains, Bool, Catalogue, Cond, Contains, Contains-from_filter_map, Contains-from_map, Contains-here, Contains-map, Diagonal, Edge, FragNo, IsEdgeOf, IsTable, List, P2, P3, Protocol, Some, and_parts, ap, arith, ascending, asked_by, asked_in, class_no, cond, cond_for, cond_of, condition_on, conditions, conditions_of, conflict_graph, each_to, edges_known, eqb-true, false, frag_no, fragments_in, fragments_of, is_asked, length, map, option_or, p2_time, refl, subst, sym, true, undeclared_conditions, ℕ, ◌==◌, ◌∙◌, ◌∷◌, ◌≡◌, ◌≢◌, ◌≤◌}
+use Rattle.sdd_progress.proofs.All.{All-contains, Bool, Catalogue, Cond, Contains, Contains-from_filter_map, Contains-from_map, Contains-here, Contains-map, Diagonal, Edge, FragNo, IsEdgeOf, IsTable, List, P2, P3, Protocol, Some, and_parts, ap, arith, ascending, asked_by, asked_in, class_no, cond, cond_of, condition_class, condition_is, condition_on, conditions, conditions_of, conflict_graph, each_to, edges_known, eqb-true, false, frag_no, fragments_in, fragments_of, inl, inr, is_asked, length, map, p2_time, refl, subst, sym, true, undeclared_conditions, ℕ, ◌==◌, ◌∙◌, ◌∷◌, ◌≡◌, ◌≢◌, ◌≤◌}
 use Rattle.sdd_obligations.specs.All.{classes_of}
 use Rattle.sdd_obligations.specs.protocol.declared.entry.Entry.{Entry}
 use Rattle.sdd_obligations.specs.serial_orders.Attempts.{Attempt}
@@ -11,23 +11,18 @@ pub record HasDiagonal (entries : List Entry) (i j : ℕ) : Type 0 where
   pub fragment : FragNo
   pub edge_is : entry.edge ≡ Diagonal (class_no i) (class_no j) fragment
 
-some_asked : (p : Protocol) (test : ℕ → Bool) (entries : List Entry) (i j : ℕ) (fs : List FragNo) (f : FragNo) (rest : List FragNo)
-    → asked_by p test entries i j ≡ fs → fs ≡ f ∷ rest → HasDiagonal entries i j
-some_asked p test entries i j fs f rest e is =
-    let r = Contains-from_filter_map (asked_in p test i j) entries f (subst (λ xs. Contains xs f) (sym (e ∙ is)) (Contains-here f rest)) in
+some_asked : (p : Protocol) (test : ℕ → Bool) (entries : List Entry) (i j : ℕ) (f : FragNo) (rest : List FragNo)
+    → asked_by p test entries i j ≡ f ∷ rest → HasDiagonal entries i j
+some_asked p test entries i j f rest e =
+    let r = Contains-from_filter_map (asked_in p test i j) entries f (subst (λ xs. Contains xs f) (sym e) (Contains-here f rest)) in
     record { entry = r.0; there = r.1; fragment = f; edge_is = (grind (arith, and_parts, eqb-true)) }
 
--- what a condition for fragments tells: it is on that class, and there are some
-pub record IsOn (j : ℕ) (frags : List FragNo) (c : Cond) : Type 0 where
-  pub class : c.class.0 ≡ j
-  pub first : FragNo
-  pub rest : List FragNo
-  pub some : frags ≡ first ∷ rest
-
-diagonal_of : (test : ℕ → Bool) (entries : List Entry) (i j own p2 : ℕ) (c : Cond) (thirds seconds : List FragNo)
-    → asked_by P3 test entries i j ≡ thirds → asked_by P2 test entries i j ≡ seconds
-    → option_or (cond_for j own thirds) (cond_for j p2 seconds) ≡ Some c → (c.class.0 ≡ j) × HasDiagonal entries i j
-diagonal_of test entries i j own p2 c thirds seconds t s e = grind (arith, some_asked)
+diagonal_of : (test : ℕ → Bool) (entries : List Entry) (i own p2 j : ℕ) (c : Cond)
+    → condition_on test entries i own p2 j ≡ Some c → HasDiagonal entries i j
+diagonal_of test entries i own p2 j c e = elim (condition_is test entries i own p2 j c e) [
+  | inl a ↦ some_asked P3 test entries i j a.first a.more a.some
+  | inr a ↦ some_asked P2 test entries i j a.first a.more a.some
+]
 
 -- a diagonal joins two classes
 pub two_classes : (cat : Catalogue) (entries : List Entry) (i j : ℕ) → IsTable cat entries → HasDiagonal entries i j → i ≢ j
@@ -53,7 +48,6 @@ other_class era cat table a d c is =
       | false ↦ λ z m e.
           let test = is_asked cat a.class d frags in
           let of = Contains-from_filter_map (condition_on test table a.class a.ts (p2_time a)) (classes_of cat) c m in
-          let k = diagonal_of test table a.class of.0 a.ts (p2_time a) c
-          (asked_by P3 test table a.class of.0) (asked_by P2 test table a.class of.0) refl refl of.2 in
-          two_classes era table a.class of.0 is k.1 (sym e ∙ k.0)
+          let on = condition_class test table a.class a.ts (p2_time a) of.0 c of.2 in
+          two_classes era table a.class of.0 is (diagonal_of test table a.class a.ts (p2_time a) of.0 c of.2) (sym e ∙ on)
     ] refl

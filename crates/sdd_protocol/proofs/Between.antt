@@ -1,5 +1,5 @@
 -- The conditions on a writer rest on the diagonals between the reader and the writer alone.
-use Rattle.sdd_protocol.proofs.All.{All, All-head, All-tail, Bool, Covers, DiagonalIndex, Edge, Entry, IsIndexOf, List, None, Option, Protocol, [], ap, append-nil, arith, asked_by, asked_in, cases_Bool, cases_lt, condition_on, drop, drop_split, false, filter, filter-append, filter_map, get_or, get_or-drop, get_or-take, get_or_past, inl, inr, is_between, length, length-drop, length-take, nat_tests, range_of, refl, sym, take, take-append-drop, true, ℕ, ◌++◌, ◌+◌, ◌-◌, ◌<◌, ◌∙◌, ◌∷◌, ◌≡◌, ◌≤◌}
+use Rattle.sdd_protocol.proofs.All.{All, All-head, All-tail, Bool, Covers, DiagonalIndex, Edge, Entry, IsIndexOf, List, None, Option, Protocol, Some, [], ap, append-nil, arith, asked_by, asked_in, cases_Bool, cases_lt, cond_for, condition_on, condition_under, drop, drop_split, false, filter, filter-append, filter_map, find, get_or, get_or-drop, get_or-take, get_or_past, inl, inr, is_between, length, length-drop, length-take, nat_tests, option_and_then, option_map, protocol_between, range_of, refl, sym, take, take-append-drop, time_asked, true, ℕ, ◌++◌, ◌+◌, ◌-◌, ◌<◌, ◌∙◌, ◌∷◌, ◌≡◌, ◌≤◌}
 
 -- a filter that nothing passes
 filter_none : {X : Type 0} (p : X → Bool) (xs : List X) → All (λ x. p x ≡ false) xs → filter p xs ≡ []
@@ -62,8 +62,34 @@ asked_by-between : (protocol : Protocol) (test : ℕ → Bool) (xs ys : List Ent
     → asked_by protocol test xs i j ≡ asked_by protocol test ys i j
 asked_by-between protocol test xs ys i j e = grind (arith, nat_tests, nothing_between, filter_map-filter)
 
+-- the first member that passes a test is the first of those that pass it
+find-filter : {A : Type 0} (p : A → Bool) (xs : List A) → find p (filter p xs) ≡ find p xs
+find-filter p [] = refl
+find-filter p (x ∷ xs) = grind (arith, nat_tests, (find-filter p xs))
+
+-- and have one protocol between the two
+protocol_between-between : (xs ys : List Entry) (i j : ℕ)
+    → filter (λ e. is_between i j e.edge) xs ≡ filter (λ e. is_between i j e.edge) ys
+    → protocol_between xs i j ≡ protocol_between ys i j
+protocol_between-between xs ys i j e =
+    let between : Entry → Bool = λ x. is_between i j x.edge in
+    ap (λ o. option_map (λ (x : Entry). x.protocol) o) (sym (find-filter between xs) ∙ ap (λ l. find between l) e ∙ find-filter between ys)
+
+condition_under-between : (test : ℕ → Bool) (xs ys : List Entry) (i own p2 j : ℕ) (protocol : Protocol)
+    → filter (λ e. is_between i j e.edge) xs ≡ filter (λ e. is_between i j e.edge) ys
+    → condition_under test xs i own p2 j protocol ≡ condition_under test ys i own p2 j protocol
+condition_under-between test xs ys i own p2 j protocol e =
+    ap (λ frags. option_and_then (λ t. cond_for j t frags) (time_asked own p2 protocol)) (asked_by-between protocol test xs ys i j e)
+
+each_then : {A B : Type 0} (f g : A → Option B) (o : Option A) → ((x : A) → f x ≡ g x) → option_and_then f o ≡ option_and_then g o
+each_then f g None h = refl
+each_then f g (Some x) h = h x
+
 -- and set one condition
 pub condition_on-between : (test : ℕ → Bool) (xs ys : List Entry) (i own p2 j : ℕ)
     → filter (λ e. is_between i j e.edge) xs ≡ filter (λ e. is_between i j e.edge) ys
     → condition_on test xs i own p2 j ≡ condition_on test ys i own p2 j
-condition_on-between test xs ys i own p2 j e = grind (arith, nat_tests, asked_by-between)
+condition_on-between test xs ys i own p2 j e =
+    each_then (condition_under test xs i own p2 j) (condition_under test ys i own p2 j) (protocol_between xs i j)
+    (λ protocol. condition_under-between test xs ys i own p2 j protocol e)
+    ∙ ap (λ o. option_and_then (condition_under test ys i own p2 j) o) (protocol_between-between xs ys i j e)

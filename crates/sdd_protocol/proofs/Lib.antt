@@ -1,6 +1,7 @@
 mod All
 mod CollectedValues
 pub mod Between
+pub mod ConditionOn
 pub mod Laws
 pub mod MadeTable
 pub mod Marks

@@ -1,5 +1,5 @@
 -- Where the diagonals of each reader and each writer stand among the entries of a table.
-use Rattle.std.specs.Prelude.{ℕ, ◌+◌, ◌*◌, ◌<◌, ◌≤◌, ◌==◌, ◌≡◌, replicate, ◌&&◌, if◌then◌else◌, Bool, false, List, length, slice_index_or, slice_set, All}
+use Rattle.std.specs.Prelude.{ℕ, ◌+◌, ◌*◌, ◌<◌, ◌≤◌, ◌==◌, ◌≡◌, replicate, if◌then◌else◌, List, length, slice_index_or, slice_set, All}
 use Rattle.sdd_blocks.specs.declared.TheConstants.{MAX_EDGES}
 use Rattle.sdd_graph.specs.declared.edge.Edge.{Edge}
 use Rattle.sdd_graph.specs.declared.edge.Edge.TheVariants.{Vertical, Horizontal, Diagonal}
@@ -33,12 +33,6 @@ with_edge index (Diagonal i j f) k =
     record index {
       ranges = slice_set index.ranges (cell index i.0 j.0) (widened (range_of index i.0 j.0) k);
     }
-
--- whether the edge is a diagonal from class i to class j
-abbrev pub is_between : ℕ → ℕ → Edge → Bool
-is_between i j (Vertical c) = false
-is_between i j (Horizontal c d) = false
-is_between i j (Diagonal reader writer f) = (reader.0 == i) && (writer.0 == j)
 
 -- a place is in the range of the diagonal that stands there
 abbrev pub Covers : DiagonalIndex → ℕ → Edge → Type 0

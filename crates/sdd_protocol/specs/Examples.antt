@@ -1,12 +1,12 @@
 -- Worked examples.
-use Rattle.std.specs.Prelude.{ℕ, pos, ◌≡◌, List, [], ◌∷◌, map, refl}
+use Rattle.std.specs.Prelude.{ℕ, pos, ◌≡◌, List, [], ◌∷◌, map, None, Some, refl}
 use Rattle.sdd_catalog.specs.Catalogue.{Catalogue, catalogue_of}
 use Rattle.sdd_catalog.specs.Examples.{split}
 use Rattle.sdd_base.specs.Numbers.{class_no, frag_no}
 use Rattle.sdd_graph.specs.Graph.{conflict_graph}
 use Rattle.sdd_graph.specs.declared.edge.Edge.TheVariants.{Vertical, Diagonal}
 use Rattle.sdd_graph.specs.Examples.{with_classes, class}
-use Rattle.sdd_protocol.specs.Conditions.{cond_of, conditions, undeclared_conditions}
+use Rattle.sdd_protocol.specs.Conditions.{cond_of, conditions, protocol_between, undeclared_conditions}
 use Rattle.sdd_protocol.specs.Protocols.{entry_of, protocol_in}
 use Rattle.sdd_protocol.specs.declared.protocol.Protocol.{Protocol}
 use Rattle.sdd_protocol.specs.declared.protocol.Protocol.TheVariants.{P1, P2, P3}
@@ -40,6 +40,13 @@ no_block = refl
 pub reader_block :
     protocol_in (vertical 1 0 ∷ vertical 2 1 ∷ []) (Diagonal (class_no 2) (class_no 1) (frag_no 1)) 1 ≡ P3
 reader_block = refl
+
+-- so class 2 follows P2 toward class 1, and class 1 follows nothing toward class 2
+pub protocol_row : protocol_between lines 2 1 ≡ Some P2
+protocol_row = refl
+
+pub no_protocol : protocol_between lines 1 2 ≡ None
+no_protocol = refl
 
 -- at module 1 the reader of both fragments asks its one writer, up to the time of P2
 pub asks_once : conditions two lines 2 1 (frag_no 1 ∷ frag_no 2 ∷ []) 258 255

@@ -1,7 +1,8 @@
-ghost use Rattle.std.specs.Prelude.{◌≡◌, ◌&&◌, ◌==◌, IfOk};
+ghost use Rattle.std.specs.Prelude.{◌≡◌, ◌&&◌, ◌==◌, option_map, IfOk};
 ghost use Rattle.sdd_protocol.specs.FragmentMarks.{is_marked};
 ghost use Rattle.sdd_protocol.specs.Attempts.{condition_by};
-ghost use Rattle.sdd_protocol.specs.Conditions.{asked_on, asked_in, asked_by, cond_for};
+ghost use Rattle.sdd_protocol.specs.Conditions.{asked_on, asked_in, asked_by, cond_for, condition_under, protocol_between, time_asked};
+ghost use Rattle.sdd_protocol.specs.Protocols.{is_between};
 
 use crate::asked::Asked;
 use crate::attempt::Attempt;
@@ -11,7 +12,8 @@ use sdd_base::{ClassNo, Cond, FragNo, Frags, NoMemory, Ts};
 use sdd_graph::Edge;
 use std::alloc::Global;
 
-/// The condition on a writer, where diagonals among the entries set one. Two passes over the entries.
+/// The condition on a writer, where the protocol between it and the reader sets one. Two passes over the
+/// entries, the first up to a diagonal between them; where there is none, or it asks nothing, no memory is taken.
 pub(crate) fn condition_on(
     alloc: Global,
     entries: &[Entry],
@@ -22,9 +24,52 @@ pub(crate) fn condition_on(
     ensures { IfOk result (λ found.
         found ≡ condition_by (is_marked asked.now) entries.now attempt writer.0) }
 {
-    let by_p3 = asked_by(alloc, entries, Protocol::P3, asked, attempt.class, writer)?;
-    let by_p2 = asked_by(alloc, entries, Protocol::P2, asked, attempt.class, writer)?;
-    Ok(cond_for(writer, attempt.own, by_p3).or(cond_for(writer, attempt.p2, by_p2)))
+    match protocol_between(entries, attempt.class, writer) {
+        Some(protocol) => condition_under(alloc, entries, protocol, asked, attempt, writer),
+        None => Ok(None),
+    }
+}
+
+/// The protocol that the reader follows toward the writer, where a diagonal leads there.
+fn protocol_between(entries: &[Entry], reader: ClassNo, writer: ClassNo) -> Option<Protocol>
+    ensures { result ≡ protocol_between entries.now reader.0 writer.0 }
+{
+    entries
+        .iter()
+        .find(|entry| is_between(entry.edge, reader, writer))
+        .map(|entry| entry.protocol)
+}
+
+/// What the protocol asks of the writer.
+fn condition_under(
+    alloc: Global,
+    entries: &[Entry],
+    protocol: Protocol,
+    asked: &Asked,
+    attempt: Attempt,
+    writer: ClassNo,
+) -> Result<Option<Cond>, NoMemory>
+    ensures { IfOk result (λ found.
+        found
+        ≡ condition_under (is_marked asked.now) entries.now attempt.class.0 attempt.own.0
+        attempt.p2.0 writer.0 protocol) }
+{
+    let Some(time) = time_asked(attempt, protocol) else {
+        return Ok(None);
+    };
+    let frags = asked_by(alloc, entries, protocol, asked, attempt.class, writer)?;
+    Ok(cond_for(writer, time, frags))
+}
+
+/// The time up to which a protocol asks.
+fn time_asked(attempt: Attempt, protocol: Protocol) -> Option<Ts>
+    ensures { option_map (λ t. t.0) result ≡ time_asked attempt.own.0 attempt.p2.0 protocol }
+{
+    match protocol {
+        Protocol::P1 => None,
+        Protocol::P2 => Some(attempt.p2),
+        Protocol::P3 => Some(attempt.own),
+    }
 }
 
 /// A condition for the fragments, where there are some.
@@ -84,7 +129,7 @@ fn asked_on(edge: Edge, asked: &Asked, reader: ClassNo, writer: ClassNo) -> Opti
 {
     match edge {
         Edge::Diagonal(i, j, frag) => {
-            if is_between(i, j, reader, writer, asked.has(frag)) {
+            if i == reader && (j == writer && asked.has(frag)) {
                 Some(frag)
             } else {
                 None
@@ -94,8 +139,12 @@ fn asked_on(edge: Edge, asked: &Asked, reader: ClassNo, writer: ClassNo) -> Opti
     }
 }
 
-fn is_between(i: ClassNo, j: ClassNo, reader: ClassNo, writer: ClassNo, is_asked: bool) -> bool
-    ensures { result ≡ ((i.0 == reader.0) && ((j.0 == writer.0) && is_asked)) }
+/// Whether the edge is a diagonal from the reader to the writer.
+fn is_between(edge: Edge, reader: ClassNo, writer: ClassNo) -> bool
+    ensures { result ≡ is_between reader.0 writer.0 edge }
 {
-    i == reader && (j == writer && is_asked)
+    match edge {
+        Edge::Diagonal(i, j, _) => i == reader && j == writer,
+        Edge::Vertical(_) | Edge::Horizontal(_, _) => false,
+    }
 }

@@ -4,8 +4,8 @@ ghost use Rattle.sdd_graph.specs.Edges.{IsClassOf};
 ghost use Rattle.sdd_protocol.specs.FragmentMarks.{is_marked};
 ghost use Rattle.sdd_protocol.specs.Attempts.{condition_by, conditions_on};
 ghost use Rattle.sdd_protocol.specs.Conditions.{conditions};
-ghost use Rattle.sdd_protocol.specs.DiagonalIndex.{is_between, IsIndexed};
-ghost use Rattle.sdd_protocol.specs.Protocols.{entry_of};
+ghost use Rattle.sdd_protocol.specs.DiagonalIndex.{IsIndexed};
+ghost use Rattle.sdd_protocol.specs.Protocols.{entry_of, is_between};
 
 use crate::asked::Asked;
 use crate::attempt::Attempt;

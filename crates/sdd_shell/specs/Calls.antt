@@ -1,5 +1,5 @@
 -- How a call of a program ends, by its words and the files that they name: one contract for all programs.
-use Rattle.std.specs.Prelude.{◌≡◌, ◌≢◌, ◌≤◌, ◌⊎◌, ◌↔◌, ℕ, List, length, take, Option, Some, None, Result, MatchOption, IfSome, OnOk, IfErr, IsErrOf}
+use Rattle.std.specs.Prelude.{◌≡◌, ◌≢◌, ◌≤◌, ◌⊎◌, ◌↔◌, ℕ, List, [], ◌∷◌, length, refl, take, Option, Some, None, Result, MatchOption, IfSome, OnOk, IfErr, IsErrOf}
 use Rattle.sdd_lang.specs.base.declared.files.ShelfFile.{ShelfFile}
 use Rattle.sdd_lang.specs.base.Outside.{Rose, with_end}
 use Rattle.sdd_lang.specs.All.{CatFault}
@@ -31,13 +31,37 @@ pub data ComesTo {Form : Type 0} (call : Call Form) (files : List ShelfFile) (wo
   by_form : (form : Form) (verdict : Verdict) → call.form_in words ≡ Some form → (call.request form).comes_to files verdict
       → ComesTo call files words verdict
 
--- worked: words of no form, and words of a form that prints its own word
-module _ (call : Call (List ℕ)) (files : List ShelfFile) (words : List (List ℕ)) (word : List ℕ) where
-  pub no_form_example : call.form_in words ≡ None → ComesTo call files words NoForm
-  no_form_example none = no_form none
+-- worked: a program that prints its only word, and has no form for no word or for two
 
-  pub by_form_example : call.form_in words ≡ Some word → (call.request word).comes_to files (Prints word) → ComesTo call files words (Prints word)
-  by_form_example is comes = by_form word (Prints word) is comes
+abbrev only_word : List (List ℕ) → Option (List ℕ)
+only_word (word ∷ []) = Some word
+only_word _ = None
+
+abbrev says : List ℕ → Request
+says word = record {
+  comes_to = λ files verdict. verdict ≡ Prints word;
+  names = [];
+  has_files = λ files. Unit {0};
+  endings = [];
+  endings_at_catalogue = [];
+  endings_at_workload = [];
+}
+
+abbrev echo : Call (List ℕ)
+echo = record { form_in = only_word; is_no_form = λ words. only_word words ≡ None; request = says; usage = [] }
+
+-- `hi`, by its bytes
+abbrev hi : List ℕ
+hi = 104 ∷ 105 ∷ []
+
+pub one_word_is_printed : ComesTo echo [] (hi ∷ []) (Prints hi)
+one_word_is_printed = by_form hi (Prints hi) refl refl
+
+pub nothing_else_is_printed : (text : List ℕ) → ComesTo echo [] (hi ∷ []) (Prints text) → text ≡ hi
+nothing_else_is_printed text (by_form form verdict is comes) = cc
+
+pub two_words_have_no_form : ComesTo echo [] (hi ∷ hi ∷ []) NoForm
+two_words_have_no_form = no_form refl
 
 -- it is over these files
 abbrev pub IsOver : {Form : Type 0} → Call Form → Option (List ShelfFile) → List ShelfFile → List (List ℕ) → Type 0

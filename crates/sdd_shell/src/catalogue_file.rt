@@ -14,7 +14,11 @@ use sdd_catread::read_catalogue;
 use sdd_lang::{Catalogue, MAX_CATALOGUE_BYTES, Shelf, read_file};
 use std::alloc::Global;
 
-/// Reads a file to its end, or one byte past the limit.
+/// Reads the file of this name to its end, or one byte past the limit, by which a caller sees that it is too long.
+///
+/// `ReadFault` where a call of the shelf failed: there is no such file, it doesn't open, or a read of it
+/// fails; the shelf's count of faults then rose. `NoMemory` where memory ran out. No other status comes.
+/// Takes time and memory linear in the bytes read, and one of the shelf's numbers of open files.
 pub fn read_named<S: Shelf>(
     alloc: Global,
     shelf: &mut S,
@@ -44,7 +48,12 @@ fn read_catalogue_bytes(alloc: Global, bytes: &[u8]) -> Result<Catalogue, Status
     Ok(read_catalogue(alloc, bytes)?)
 }
 
-/// The catalogue in the file of this name, or its first fault.
+/// The catalogue in the file of this name.
+///
+/// `BadCatalogue` where the file has a fault, which is its first one (a file of more than
+/// `MAX_CATALOGUE_BYTES` has one); `ReadFault` where a call of the shelf failed, whose count of faults then
+/// rose; `NoMemory` where memory ran out. No other status comes. Of the file at most a byte past that limit
+/// is read; takes one of the shelf's numbers of open files.
 pub fn accepted_catalogue<S: Shelf>(
     alloc: Global,
     shelf: &mut S,

@@ -28,7 +28,12 @@ fn read_workload_bytes(
     Ok(read_workload(alloc, bytes, catalogue)?)
 }
 
-/// The workload for the catalogue in the file of this name, or its first fault.
+/// The workload for the catalogue in the file of this name.
+///
+/// `BadWorkload` where the file has a fault, which is its first one (a file of more than
+/// `MAX_WORKLOAD_BYTES` has one); `ReadFault` where a call of the shelf failed, whose count of faults then
+/// rose; `NoMemory` where memory ran out. No other status comes. Of the file at most a byte past that limit
+/// is read; takes one of the shelf's numbers of open files.
 pub fn accepted_workload<S: Shelf>(
     alloc: Global,
     shelf: &mut S,
