@@ -1,12 +1,12 @@
 -- The names of std, of the crates below and of this crate's definitions that its proofs cite. Declares nothing.
 pub use Rattle.sdd_exec.specs.Choices.{Choice, Has, HasAll, IsComplete, NoRepeats, extended, extensions, is_taken, is_there, key_for, key_of, keyed, passes, passes_one, picked, placed, places, row_from, row_of_tuple, same_row, tie_of, ties_of, with_found}
-pub use Rattle.sdd_exec.specs.Exploring.{AreMade, AreNexts, AreNodes, IsDone, IsExplored, IsExploredAt, IsExploredBy, IsKept, IsLed, IsMade, IsNext, IsNode, IsSoundAt, StillHas, are_taken, is_seen, marks_of, places_made, places_with}
+pub use Rattle.sdd_exec.specs.Exploring.{AreMade, AreNexts, AreNodes, IsDead, IsDone, IsExplored, IsExploredAt, IsExploredBy, IsKept, IsLed, IsMade, IsNext, IsNode, IsSoundAt, NoneComes, NoneComesAt, NoneComesBy, StillHas, are_taken, is_dead, is_seen, marks_of, places_made, places_with}
 pub use Rattle.sdd_exec.specs.Rising.{by_keys, keyed_rows, to_last, to_last_key}
 pub use Rattle.sdd_exec.specs.Serves.{AreEnoughAlong, AreHeld, IsRowOf, Serves}
 pub use Rattle.sdd_exec.specs.Sifting.{AreEnough, HasLike, IsAnswered, IsCovered, IsSieve, IsSifted, Offered, TellsAnswer, TooMany, all_rows, choices_of_part, extended_by, found_with, is_apart, joined, link_between, links_of, outs_of, pair_of, pairs_of, values_of}
 pub use Rattle.sdd_exec.specs.Snapshots.{Shipped, chosen_for, found_for, of_relation, parts_for, rows_for, with_chosen}
 pub use Rattle.sdd_exec.specs.Splicing.{Agrees, AllAlike, AllInside, Answers, AreSound, IsOutside, IsThereIn, LinksAlike, MeetsInside, OutsAlike, spliced}
-pub use Rattle.sdd_exec.specs.declared.exploring.Explored.{Explored}
+pub use Rattle.sdd_exec.specs.declared.known.Explored.{Explored}
 pub use Rattle.sdd_exec.specs.declared.plan.Made.{Made}
 pub use Rattle.sdd_exec.specs.declared.plan.Next.{Next}
 pub use Rattle.sdd_exec.specs.declared.plan.Node.{Node}
@@ -29,7 +29,7 @@ pub use Rattle.sdd_lang.specs.declared.source.Entry.{Entry}
 pub use Rattle.sdd_lang.specs.declared.statement.Stmt.{Stmt}
 pub use Rattle.sdd_lang.specs.declared.statement.Stmt.TheVariants.{Query}
 pub use Rattle.sdd_lang.specs.declared.transaction.Txn.{Txn}
-pub use Rattle.std.proofs.Common.{Bool, Bor, Equal, Greater, IfOk, Less, List, None, Option, Ordering, Some, [], add-one, ap, append-nil, append_assoc, arith, cond, drop, eq-eqb, eqb-true, false, filter, filter_map, flat_map, fold, get_or-drop, inl, inr, int_cmp, is_eq, le-ltb, length, lt-ltb, ltb-false, ltb-true, map, nat_cmp, nat_lt, not, pos, refl, slice_get, slice_index, slice_index_or, subst, suc, sym, take, take-append-drop, take_all, true, zero, ℕ, ℤ, ⊎_elim, ◌&&◌, ◌++◌, ◌+◌, ◌-◌, ◌<◌, ◌==◌, ◌||◌, ◌∙◌, ◌∷◌, ◌≡◌, ◌≤◌, ◌⊎◌}
+pub use Rattle.std.proofs.Common.{Bool, Bor, Equal, Greater, IfOk, IfSome, Less, List, None, Option, Ordering, Some, [], add-one, ap, append-nil, append_assoc, arith, cond, drop, eq-eqb, eqb-true, false, filter, filter_map, flat_map, fold, get_or-drop, inl, inr, int_cmp, is_eq, le-ltb, length, lt-ltb, ltb-false, ltb-true, map, nat_cmp, nat_lt, not, pos, refl, slice_get, slice_index, slice_index_or, subst, suc, sym, take, take-append-drop, take_all, true, zero, ℕ, ℤ, ⊎_elim, ◌&&◌, ◌++◌, ◌+◌, ◌-◌, ◌<◌, ◌==◌, ◌||◌, ◌∙◌, ◌∷◌, ◌≡◌, ◌≤◌, ◌⊎◌}
 pub use Rattle.std.proofs.lemmas.Bool.{cases_Bool, cases_lt, eqb-false}
 pub use Rattle.std.proofs.lemmas.Cmp.{int_cmp_total, nat_cmp_total, tied_itself}
 pub use Rattle.std.proofs.lemmas.List.{at_drop_more, get_or-map, get_or_past, length-map, map-append, nil_from_length, take_more}

@@ -1,5 +1,5 @@
 -- What is found of the choices of all parts that come of a choice of some.
-use Rattle.sdd_exec.proofs.All.{Agrees, AllInside, Choice, Condition, Const, Has, IsDone, IsExplored, IsExploredBy, IsThereIn, List, Ref, Row, Same, StillHas, Tie, [], ap, are_taken, arith, both, cases_Bool, eqb-false, eqb-true, false, inl, is_taken, is_there, key_for, key_of, keyed, length, link_between, links_of, list_all-append, lists_decide, marks_of, meets_all, outs_of, passes, picked, placed, places, refl, same_row, slice_index, slice_index_or, slice_index_or as get_or, spliced, subst, suc, sym, take, take_more, ties_of, true, value_at, value_decides, values_of, ℕ, ⊎_elim, ◌++◌, ◌+◌, ◌-◌, ◌<◌, ◌==◌, ◌∙◌, ◌∷◌, ◌≡◌}
+use Rattle.sdd_exec.proofs.All.{Agrees, AllInside, Choice, Condition, Const, Has, IsDead, IsDone, IsExplored, IsExploredBy, IsThereIn, List, NoneComes, NoneComesBy, Ref, Row, Same, StillHas, Tie, [], ap, are_taken, arith, both, cases_Bool, eqb-false, eqb-true, false, inl, is_taken, is_there, key_for, key_of, keyed, length, link_between, links_of, list_all-append, lists_decide, marks_of, meets_all, outs_of, passes, picked, placed, places, refl, same_row, slice_index, slice_index_or, slice_index_or as get_or, spliced, subst, suc, sym, take, take_more, ties_of, true, value_at, value_decides, values_of, ℕ, ⊎_elim, ◌++◌, ◌+◌, ◌-◌, ◌<◌, ◌==◌, ◌∙◌, ◌∷◌, ◌≡◌}
 use Rattle.sdd_exec.proofs.Complete.{has_keyed, has_place, keys_agree, keys_meet, passes_all, place_is_there, placed_at, same_places, taken_or_new, ties_hold, value_agrees}
 use Rattle.sdd_exec.proofs.Inside.{inside_extended, sound_start, there_extended}
 use Rattle.sdd_exec.proofs.Members.{Has-append, Has-filter_from, Has-map_from}
@@ -138,6 +138,19 @@ explored_done parts conds out group c found sound explored t there met same =
     (explored (spliced (length parts) group c t) (new_there parts group c t sound.0 there)
     (meets_new parts group c t conds sound.1 (alike_by_values parts group c t conds (sym e.0)) met) (new_in parts group c t))
 
+-- where none comes of any choice with its links, none comes of a choice
+pub dead_none : (parts : List (List Row)) (conds : List Condition) (group : List ℕ) (c : Choice)
+    → IsDead parts conds (links_of group conds) (values_of parts (links_of group conds) c) → NoneComes parts conds group c
+dead_none parts conds group c dead t there met agrees =
+    dead t there met (sym (values_agree parts group c t (links_of group conds) agrees (links_taken group conds)))
+
+-- where none comes of a choice whose rows are there and meet the conditions inside, none comes of any with its links
+pub none_dead : (parts : List (List Row)) (conds : List Condition) (group : List ℕ) (c : Choice) → IsThereIn parts group c × AllInside parts group c conds
+    → NoneComes parts conds group c → IsDead parts conds (links_of group conds) (values_of parts (links_of group conds) c)
+none_dead parts conds group c sound none t there met same =
+    none (spliced (length parts) group c t) (new_there parts group c t sound.0 there)
+    (meets_new parts group c t conds sound.1 (alike_by_values parts group c t conds (sym same)) met) (new_in parts group c t)
+
 -- the places of a part are explored one by one
 pub explored_more : (parts : List (List Row)) (conds : List Condition) (out : List Ref) (group : List ℕ) (c : Choice) (part : ℕ) (ps : List ℕ) (i d : ℕ)
     (old new : List Row) → i < length ps → StillHas old new → IsExploredBy parts conds out group c part (take i ps) old
@@ -170,6 +183,21 @@ told_explored parts conds out group c found whole told t there met agrees =
     let same = same_places parts c t (λ p less. agrees p less (whole p less)) in
     let e = same.0 in
     rw e at (told (same.1 ∙ there) (rw e met))
+
+-- the same of choices of which none comes: they are explored where nothing is found
+pub none_more : (parts : List (List Row)) (conds : List Condition) (group : List ℕ) (c : Choice) (part : ℕ) (ps : List ℕ) (i d : ℕ) → i < length ps
+    → NoneComesBy parts conds group c part (take i ps) → NoneComes parts conds (group ++ part ∷ []) (placed (length parts) c part (get_or ps i d))
+    → NoneComesBy parts conds group c part (take (i + 1) ps)
+none_more parts conds group c part ps i d less before one = explored_more parts conds [] group c part ps i d [] [] less (λ row has. has) before one
+
+pub none_all : (parts : List (List Row)) (conds : List Condition) (group : List ℕ) (c : Choice) (part : ℕ) → part < length parts
+    → NoneComesBy parts conds group c part (allowed parts conds group part c) → NoneComes parts conds group c
+none_all parts conds group c part less all = explored_all parts conds [] group c part [] less all
+
+pub none_told : (parts : List (List Row)) (conds : List Condition) (group : List ℕ) (c : Choice)
+    → ((p : ℕ) → p < length parts → is_taken group p ≡ true) → (is_there parts c ≡ true → meets_all conds (picked parts c) ≡ true → ⊥)
+    → NoneComes parts conds group c
+none_told parts conds group c whole told = told_explored parts conds [] group c [] whole told
 
 -- nothing is taken yet
 pub sound_none : (parts : List (List Row)) (conds : List Condition) (taken : List ℕ) → taken ≡ []

@@ -1,5 +1,5 @@
 -- What a search keeps.
-use Rattle.sdd_exec.proofs.All.{Bool, Choice, Condition, Explored, Has, IsDone, IsExplored, IsKept, IsNode, List, Node, NoRepeats, None, Ref, Row, Some, StillHas, Tuple, [], all_rows, ap, arith, cases_Bool, cond, contains, distinct, false, inl, inr, insert_key, is_seen, is_there, length, lists_decide, map, meets_all, nat_lt, option_map_or, picked, product, refl, row_cmp, same_row, selection, slice_get, slice_index_or, subst, suc, sym, true, value_at, value_decides, values_of, within, zero, ℕ, ⊎_elim, ◌<◌, ◌∙◌, ◌∷◌, ◌≡◌, ◌⊎◌}
+use Rattle.sdd_exec.proofs.All.{Bool, Choice, Condition, Explored, Has, IsDead, IsDone, IsExplored, IsKept, IsNode, List, Node, NoRepeats, None, Ref, Row, Some, StillHas, Tuple, [], all_rows, ap, arith, cases_Bool, cond, contains, distinct, false, inl, inr, insert_key, is_dead, is_seen, is_there, length, lists_decide, map, meets_all, nat_lt, option_map_or, picked, product, refl, row_cmp, same_row, selection, slice_get, slice_index_or, subst, suc, sym, true, value_at, value_decides, values_of, within, zero, ℕ, ⊎_elim, ◌<◌, ◌∙◌, ◌∷◌, ◌≡◌, ◌⊎◌}
 use Rattle.std.proofs.Common.{slice_set}
 use Rattle.sdd_exec.proofs.Distinct.{distinct_same, insert_alone, new_or_old, new_there, old_there}
 use Rattle.sdd_exec.proofs.Enough.{no_room_for}
@@ -16,11 +16,13 @@ answer_there parts conds out c there met =
 
 module _ (parts : List (List Row)) (conds : List Condition) (out : List Ref) (nodes : List Node) where
   -- nothing is found yet
-  pub kept_start : (state : Explored) → ((place : ℕ) (marks : Row) → is_seen state place marks ≡ false) → ((row : Row) → contains same_row state.told row ≡ false)
+  pub kept_start : (state : Explored) → ((place : ℕ) (marks : Row) → is_seen state place marks ≡ false)
+      → ((place : ℕ) (links : Row) → is_dead state place links ≡ false) → ((row : Row) → contains same_row state.told row ≡ false)
       → state.found ≡ [] → IsKept parts conds out nodes state
-  kept_start state unseen untold none =
+  kept_start state unseen undead untold none =
       record {
         done = λ place node marks at seen. absurd (let never : true ≡ false = sym seen ∙ unseen place marks in cc);
+        dead = λ place node links at seen. absurd (let never : true ≡ false = sym seen ∙ undead place links in cc);
         known = λ row told. absurd (let never : true ≡ false = sym told ∙ untold row in cc);
         answers = λ row has. absurd (subst (λ (rows : List Row). Has rows row) none has);
         alone = rw none refl;
@@ -32,12 +34,13 @@ module _ (parts : List (List Row)) (conds : List Condition) (out : List Ref) (no
 
   -- one more row is found
   pub kept_told : (old new : Explored) (row : Row) → IsKept parts conds out nodes old → new.found ≡ insert_key row_cmp old.found row
-      → ((q : Row) → contains same_row new.told q ≡ true → (contains same_row old.told q ≡ true) ⊎ (row ≡ q)) → new.seen ≡ old.seen
+      → ((q : Row) → contains same_row new.told q ≡ true → (contains same_row old.told q ≡ true) ⊎ (row ≡ q)) → new.seen ≡ old.seen → new.dead ≡ old.dead
       → Has (all_rows parts conds out) row → IsKept parts conds out nodes new
-  kept_told old new row kept found told seen there =
+  kept_told old new row kept found told seen dead there =
       let still : StillHas old.found new.found = λ q has. rw found (old_there old.found row q has) in
       record {
         done = λ place node marks at yes. done_still node.marks.items marks old.found new.found still (kept.done place node marks at (rw seen at yes));
+        dead = λ place node links at yes. kept.dead place node links at (rw dead at yes);
         known = λ q yes. ⊎_elim (λ before. still q (kept.known q before)) (λ (same : row ≡ q). rw found (subst (Has (insert_key row_cmp old.found row)) same (new_there old.found row))) (told q yes);
         answers = λ q has. ⊎_elim (λ (same : row ≡ q). subst (Has (all_rows parts conds out)) same there) (λ before. kept.answers q before) (new_or_old old.found row q (rw found at has));
         alone = rw found (insert_alone old.found row kept.alone);
@@ -45,10 +48,11 @@ module _ (parts : List (List Row)) (conds : List Condition) (out : List Ref) (no
 
   -- one more choice is remembered
   pub kept_seen : (old new : Explored) (place : ℕ) (node : Node) (c : Choice) → IsKept parts conds out nodes old → new.found ≡ old.found → new.told ≡ old.told
+      → new.dead ≡ old.dead
       → ((n : ℕ) (q : Row) → is_seen new n q ≡ true → (is_seen old n q ≡ true) ⊎ ((n ≡ place) × (values_of parts node.marks.items c ≡ q)))
       → slice_get nodes place ≡ Some node → IsDone parts conds out node.marks.items (values_of parts node.marks.items c) old.found
       → IsKept parts conds out nodes new
-  kept_seen old new place node c kept found told seen is done =
+  kept_seen old new place node c kept found told dead seen is done =
       record {
         done = λ n other marks at yes.
             rw found
@@ -58,6 +62,27 @@ module _ (parts : List (List Row)) (conds : List Condition) (out : List Ref) (no
             let same : other ≡ node = (let both : Some other ≡ Some node = sym at ∙ rw one.0 is in cc) in
             rw same (subst (λ (m : Row). IsDone parts conds out node.marks.items m old.found) one.1 done))
             (seen n marks yes));
+        dead = λ n other links at yes. kept.dead n other links at (rw dead at yes);
+        known = λ q yes. rw found (kept.known q (rw told at yes));
+        answers = λ q has. kept.answers q (rw found at has);
+        alone = rw found kept.alone;
+      }
+
+  -- one more choice is remembered of which none comes
+  pub kept_dead : (old new : Explored) (place : ℕ) (node : Node) (c : Choice) → IsKept parts conds out nodes old → new.found ≡ old.found → new.told ≡ old.told
+      → new.seen ≡ old.seen
+      → ((n : ℕ) (q : Row) → is_dead new n q ≡ true → (is_dead old n q ≡ true) ⊎ ((n ≡ place) × (values_of parts node.links.items c ≡ q)))
+      → slice_get nodes place ≡ Some node → IsDead parts conds node.links.items (values_of parts node.links.items c) → IsKept parts conds out nodes new
+  kept_dead old new place node c kept found told seen dead is none =
+      record {
+        done = λ n other marks at yes. rw found (kept.done n other marks at (rw seen at yes));
+        dead = λ n other links at yes.
+            ⊎_elim
+            (λ before. kept.dead n other links at before)
+            (λ one.
+            let same : other ≡ node = (let both : Some other ≡ Some node = sym at ∙ rw one.0 is in cc) in
+            rw same (subst (λ (m : Row). IsDead parts conds node.links.items m) one.1 none))
+            (dead n links yes);
         known = λ q yes. rw found (kept.known q (rw told at yes));
         answers = λ q has. kept.answers q (rw found at has);
         alone = rw found kept.alone;

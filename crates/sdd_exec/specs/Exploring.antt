@@ -7,7 +7,7 @@ use Rattle.std.specs.Option.{option_map_or}
 use Rattle.sdd_lang.specs.declared.condition.Ref.{Ref}
 use Rattle.sdd_lang.specs.declared.condition.Condition.{Condition}
 use Rattle.sdd_lang.specs.All.{Row, distinct, meets_all}
-use Rattle.sdd_exec.specs.declared.exploring.Explored.{Explored}
+use Rattle.sdd_exec.specs.declared.known.Explored.{Explored}
 use Rattle.sdd_exec.specs.declared.plan.Made.{Made}
 use Rattle.sdd_exec.specs.declared.plan.Next.{Next}
 use Rattle.sdd_exec.specs.declared.plan.Node.{Node}
@@ -43,6 +43,7 @@ AreNexts parts conds taken nexts = (next : Next) → Has nexts next → IsNext p
 
 -- the parts of a node: what tells their choices apart, whether they are all, and which may be taken behind them
 pub record IsNode (parts : List (List Row)) (conds : List Condition) (out : List Ref) (node : Node) : Type 0 where
+  pub linked : node.links.items ≡ links_of node.taken.items conds
   pub marked : node.marks.items ≡ marks_of conds out node.taken.items
   pub whole : node.is_whole ≡ true → (p : ℕ) → p < length parts → is_taken node.taken.items p ≡ true
   pub listed : node.is_listed ≡ true → are_taken node.taken.items out ≡ true
@@ -65,25 +66,45 @@ abbrev pub IsExplored : List (List Row) → List Condition → List Ref → List
 IsExplored parts conds out group c found =
     (t : Choice) → is_there parts t ≡ true → meets_all conds (picked parts t) ≡ true → Agrees parts group c t → Has found (values_of parts out t)
 
+-- no choice of all parts whose rows are there and meet the conditions agrees with this one in the group
+abbrev pub NoneComes : List (List Row) → List Condition → List ℕ → Choice → Type 0
+NoneComes parts conds group c = (t : Choice) → is_there parts t ≡ true → meets_all conds (picked parts t) ≡ true → Agrees parts group c t → ⊥
+
 -- of those among them that have one of these places in a part
 abbrev pub IsExploredBy : List (List Row) → List Condition → List Ref → List ℕ → Choice → ℕ → List ℕ → List Row → Type 0
 IsExploredBy parts conds out group c part done found =
     (t : Choice) → is_there parts t ≡ true → meets_all conds (picked parts t) ≡ true → Agrees parts group c t → Has done (slice_index t part)
     → Has found (values_of parts out t)
 
+-- none that agrees has one of these places in a part
+abbrev pub NoneComesBy : List (List Row) → List Condition → List ℕ → Choice → ℕ → List ℕ → Type 0
+NoneComesBy parts conds group c part done =
+    (t : Choice) → is_there parts t ≡ true → meets_all conds (picked parts t) ≡ true → Agrees parts group c t → Has done (slice_index t part) → ⊥
+
 -- of each choice of all parts whose rows are there and meet the conditions, and which has these values in these columns, the row is found
 abbrev pub IsDone : List (List Row) → List Condition → List Ref → List Ref → Row → List Row → Type 0
 IsDone parts conds out columns values found =
     (t : Choice) → is_there parts t ≡ true → meets_all conds (picked parts t) ≡ true → values_of parts columns t ≡ values → Has found (values_of parts out t)
 
+-- no choice of all parts whose rows are there and meet the conditions has these values in these columns
+abbrev pub IsDead : List (List Row) → List Condition → List Ref → Row → Type 0
+IsDead parts conds columns values =
+    (t : Choice) → is_there parts t ≡ true → meets_all conds (picked parts t) ≡ true → values_of parts columns t ≡ values → ⊥
+
 -- whether a search remembers of the node at a place that a choice with these marks was explored
 abbrev pub is_seen : Explored → ℕ → Row → Bool
 is_seen state place marks = option_map_or (λ set. contains same_row set marks) (slice_get state.seen.items place) false
+
+-- whether a search remembers of the node at a place that no row of the answer comes of a choice with these links
+abbrev pub is_dead : Explored → ℕ → Row → Bool
+is_dead state place links = option_map_or (λ set. contains same_row set links) (slice_get state.dead.items place) false
 
 -- what a search remembers is so, and what it has found are different rows of the answer, ascending
 pub record IsKept (parts : List (List Row)) (conds : List Condition) (out : List Ref) (nodes : List Node) (state : Explored) : Type 0 where
   pub done : (place : ℕ) (node : Node) (marks : Row) → slice_get nodes place ≡ Some node → is_seen state place marks ≡ true
       → IsDone parts conds out node.marks.items marks state.found
+  pub dead : (place : ℕ) (node : Node) (links : Row) → slice_get nodes place ≡ Some node → is_dead state place links ≡ true
+      → IsDead parts conds node.links.items links
   pub known : (row : Row) → contains same_row state.told row ≡ true → Has state.found row
   pub answers : (row : Row) → Has state.found row → Has (all_rows parts conds out) row
   pub alone : distinct state.found ≡ state.found
@@ -95,6 +116,9 @@ IsSoundAt parts conds nodes place c =
 
 abbrev pub IsExploredAt : List (List Row) → List Condition → List Ref → List Node → ℕ → Choice → List Row → Type 0
 IsExploredAt parts conds out nodes place c found = (node : Node) → slice_get nodes place ≡ Some node → IsExplored parts conds out node.taken.items c found
+
+abbrev pub NoneComesAt : List (List Row) → List Condition → List Node → ℕ → Choice → Type 0
+NoneComesAt parts conds nodes place c = (node : Node) → slice_get nodes place ≡ Some node → NoneComes parts conds node.taken.items c
 
 -- each node at the place of a part that may be taken is that of the parts of this one with the part
 abbrev pub IsLed : List Node → Node → Next → Type 0

@@ -1,10 +1,8 @@
 //! A join that looks ahead: a search of the choices part by part, depth first, which takes next the
 //! part of which a choice leaves few rows.
-ghost use Rattle.std.specs.Prelude.{◌≡◌, ◌⊎◌, ◌&&◌, ◌<◌, ℕ, [], List, true, false, length, slice_get, IfOk, IfSome, IsTrue};
+ghost use Rattle.std.specs.Prelude.{◌≡◌, ◌&&◌, ◌||◌, true, false, length, slice_get, IfOk, IfSome, IsTrue};
 ghost use Rattle.std.specs.Option.{option_map_or};
-ghost use Rattle.std.specs.BTreeSet.{insert_key};
-ghost use Rattle.std.specs.HashSet.{contains};
-ghost use Rattle.sdd_lang.specs.All.{Value, distinct, product, projection, row_cmp, selection, within};
+ghost use Rattle.sdd_lang.specs.All.{distinct, product, projection, selection, within};
 ghost use Rattle.sdd_lang.specs.All as of_tuples;
 ghost use Rattle.sdd_exec.specs.Choices as joins;
 ghost use Rattle.sdd_exec.specs.Sifting as sift;
@@ -13,13 +11,15 @@ ghost use Rattle.sdd_exec.specs.Exploring as plans;
 use crate::choice::{choice_with_place, fill};
 use crate::found::Found;
 use crate::index::places_of;
+use crate::known::{
+    Explored, add_told, is_answered, is_dead, is_known, remember, remember_dead, unexplored,
+};
 use crate::links::values_of;
 use crate::parts::Parts;
 use crate::plan::{Next, Node, is_led, make_plan};
 use crate::tie::key_for;
-use sdd_lang::{Condition, NoMemory, Ref, Row, meets_all};
+use sdd_lang::{Condition, NoMemory, Ref, meets_all};
 use std::alloc::Global;
-use std::collections::HashSet;
 
 /// How many choices are explored before the search gives up, for each row of all parts.
 const STEPS_PER_ROW: usize = 64;
@@ -27,24 +27,8 @@ const STEPS_PER_ROW: usize = 64;
 /// How many choices are explored in any search before it gives up.
 const FREE_STEPS: usize = 4_096;
 
-/// How many states are remembered besides one for each row of all parts.
-const FREE_STATES: usize = 65_536;
-
 /// So many times fewer rows let a part be taken before one that stands first.
 const FEWER: usize = 4;
-
-/// What a search has explored.
-#[derive(Drop)]
-struct Explored {
-    /// By the place of a node what choices of its parts, of which all that can come is found, have in
-    /// its marks.
-    seen: Vec<HashSet<Row>>,
-    /// How many more of these may be remembered.
-    free: usize,
-    /// The answers, to ask for them quickly.
-    told: HashSet<Row>,
-    found: Found,
-}
 
 /// The places of a part's rows that its ties allow behind a choice.
 fn places_for<'p>(
@@ -101,27 +85,8 @@ fn is_met(
     Ok(meets_all(conds, tuple.as_slice()))
 }
 
-/// Adds what a choice has in the listed columns to the answers.
-fn add_told(
-    alloc: Global,
-    state: &mut Explored,
-    parts: &Parts,
-    out: &[Ref],
-    choice: &[usize],
-) -> Result<(), NoMemory>
-    ensures found { IfOk result (λ _. state.new.found ≡ insert_key row_cmp state.old.found (sift.values_of parts.now out.now choice.now)) }
-    ensures told { IfOk result (λ _. (q : List Value) → contains joins.same_row state.new.told q ≡ true
-        → (contains joins.same_row state.old.told q ≡ true) ⊎ (sift.values_of parts.now out.now choice.now ≡ q)) }
-    ensures seen { state.new.seen ≡ state.old.seen }
-{
-    let row = values_of(alloc, parts, out, choice)?;
-    state.found.add(alloc, row)?;
-    let again = values_of(alloc, parts, out, choice)?;
-    state.told.insert(again)?;
-    Ok(())
-}
-
-/// Adds the row of a choice of all parts, where it is an answer; whether there is room for all.
+/// Adds the row of a choice of all parts, where it is an answer; whether it is, or None where there is
+/// no room for all.
 fn tell(
     alloc: Global,
     state: &mut Explored,
@@ -131,105 +96,27 @@ fn tell(
     nodes: &[Node],
     room: usize,
     choice: &[usize],
-) -> Result<bool, NoMemory>
+) -> Result<Option<bool>, NoMemory>
     requires { plans.IsKept parts.now conds.now out.now nodes.now state.now }
     ensures kept { IfOk result (λ _. plans.IsKept parts.now conds.now out.now nodes.now state.new) }
     ensures still { IfOk result (λ _. plans.StillHas state.old.found state.new.found) }
     ensures told { IfOk result (λ _. joins.is_there parts.now choice.now ≡ true → of_tuples.meets_all conds.now (joins.picked parts.now choice.now) ≡ true
         → joins.Has state.new.found (sift.values_of parts.now out.now choice.now)) }
+    ensures none { IfOk result (λ told. IfSome told (λ came. came ≡ false
+        → joins.is_there parts.now choice.now ≡ true → of_tuples.meets_all conds.now (joins.picked parts.now choice.now) ≡ true → ⊥)) }
 {
     let row = values_of(alloc, parts, out, choice)?;
     if state.told.contains(&row) {
-        return Ok(true);
+        return Ok(Some(true));
     }
     if !is_met(alloc, parts, conds, choice)? {
-        return Ok(true);
+        return Ok(Some(false));
     }
     add_told(alloc, state, parts, out, choice)?;
-    Ok(state.found.len() <= room)
-}
-
-/// Whether a choice has all listed columns, and they are an answer that was found.
-fn is_answered(
-    alloc: Global,
-    state: &Explored,
-    node: &Node,
-    parts: &Parts,
-    out: &[Ref],
-    choice: &[usize],
-) -> Result<bool, NoMemory>
-    ensures { IfOk result (λ told. IsTrue told → (node.now.is_listed ≡ true) × (contains joins.same_row state.now.told (sift.values_of parts.now out.now choice.now) ≡ true)) }
-{
-    if !node.is_listed {
-        return Ok(false);
+    if state.found.len() > room {
+        return Ok(None);
     }
-    let row = values_of(alloc, parts, out, choice)?;
-    Ok(state.told.contains(&row))
-}
-
-/// Whether a choice of the node at a place was explored that has these values in its marks.
-fn is_seen(state: &Explored, place: usize, marks: &Row) -> bool
-    ensures { result ≡ plans.is_seen state.now place marks.now }
-{
-    match state.seen.get(place) {
-        Some(seen) => seen.contains(marks),
-        None => false,
-    }
-}
-
-/// Whether all that can come of a choice is known to be found.
-fn is_known(
-    alloc: Global,
-    state: &Explored,
-    node: &Node,
-    place: usize,
-    parts: &Parts,
-    out: &[Ref],
-    choice: &[usize],
-) -> Result<bool, NoMemory>
-    ensures { IfOk result (λ known. IsTrue known → (plans.is_seen state.now place (sift.values_of parts.now node.now.marks.items choice.now) ≡ true)
-        ⊎ ((node.now.is_listed ≡ true) × (contains joins.same_row state.now.told (sift.values_of parts.now out.now choice.now) ≡ true))) }
-{
-    let marks = values_of(alloc, parts, node.marks.as_slice(), choice)?;
-    if is_seen(state, place, &marks) {
-        return Ok(true);
-    }
-    is_answered(alloc, state, node, parts, out, choice)
-}
-
-/// Adds a row to the set at a place.
-fn add_seen(seen: &mut Vec<HashSet<Row>>, place: usize, marks: Row) -> Result<(), NoMemory>
-    requires { place < length seen.now.items }
-    ensures { IfOk result (λ _. (n : ℕ) (q : List Value) → option_map_or (λ set. contains joins.same_row set q) (slice_get seen.new.items n) false ≡ true
-        → (option_map_or (λ set. contains joins.same_row set q) (slice_get seen.old.items n) false ≡ true) ⊎ ((n ≡ place) × (marks ≡ q))) }
-{
-    seen[place].insert(marks)?;
-    Ok(())
-}
-
-/// Remembers that all that can come of a choice is found.
-fn remember(
-    alloc: Global,
-    state: &mut Explored,
-    node: &Node,
-    place: usize,
-    parts: &Parts,
-    choice: &[usize],
-) -> Result<(), NoMemory>
-    ensures seen { IfOk result (λ _. (n : ℕ) (q : List Value) → plans.is_seen state.new n q ≡ true
-        → (plans.is_seen state.old n q ≡ true) ⊎ ((n ≡ place) × (sift.values_of parts.now node.now.marks.items choice.now ≡ q))) }
-    ensures told { state.new.told ≡ state.old.told }
-    ensures found { state.new.found ≡ state.old.found }
-{
-    if state.free == 0 {
-        return Ok(());
-    }
-    if place >= state.seen.len() {
-        return Ok(());
-    }
-    state.free -= 1;
-    let marks = values_of(alloc, parts, node.marks.as_slice(), choice)?;
-    add_seen(&mut state.seen, place, marks)
+    Ok(Some(true))
 }
 
 /// Whether one more choice may be explored.
@@ -241,8 +128,15 @@ fn goes_on(steps: &mut usize) -> bool {
     true
 }
 
-/// Finds all answers that come of a choice of a node's parts; false where it leaves off, since there
-/// are more than asked for or the steps are used up.
+/// Whether one of two is so.
+fn is_either(one: bool, other: bool) -> bool
+    ensures { result ≡ (one || other) }
+{
+    one || other
+}
+
+/// Finds all answers that come of a choice of a node's parts; whether any do, or None where it leaves
+/// off, since there are more than asked for or the steps are used up.
 fn explore(
     alloc: Global,
     state: &mut Explored,
@@ -255,41 +149,46 @@ fn explore(
     left: usize,
     place: usize,
     choice: &[usize],
-) -> Result<bool, NoMemory>
+) -> Result<Option<bool>, NoMemory>
     requires nodes { plans.AreNodes parts.now conds.now out.now nodes.now }
     requires kept { plans.IsKept parts.now conds.now out.now nodes.now state.now }
     requires sound { plans.IsSoundAt parts.now conds.now nodes.now place choice.now }
     ensures kept { IfOk result (λ _. plans.IsKept parts.now conds.now out.now nodes.now state.new) }
     ensures still { IfOk result (λ _. plans.StillHas state.old.found state.new.found) }
-    ensures explored { IfOk result (λ whole. IsTrue whole → plans.IsExploredAt parts.now conds.now out.now nodes.now place choice.now state.new.found) }
+    ensures explored { IfOk result (λ whole. IfSome whole (λ came. plans.IsExploredAt parts.now conds.now out.now nodes.now place choice.now state.new.found)) }
+    ensures none { IfOk result (λ whole. IfSome whole (λ came. came ≡ false → plans.NoneComesAt parts.now conds.now nodes.now place choice.now)) }
 {
     let Some(node) = nodes.get(place) else {
-        return Ok(false);
+        return Ok(None);
     };
     if node.is_whole {
         let told = tell(alloc, state, parts, conds, out, nodes, room, choice)?;
         return Ok(told);
     }
     if left == 0 {
-        return Ok(false);
+        return Ok(None);
     }
     if !goes_on(steps) {
-        return Ok(false);
+        return Ok(None);
+    }
+    if is_dead(alloc, state, node, place, parts, choice)? {
+        return Ok(Some(false));
     }
     if is_known(alloc, state, node, place, parts, out, choice)? {
-        return Ok(true);
+        return Ok(Some(true));
     }
     let best = best_next(alloc, node, parts, choice)?;
     let Some(next) = node.nexts.get(best) else {
-        return Ok(false);
+        return Ok(None);
     };
     if !is_led(nodes, node, next) {
-        return Ok(false);
+        return Ok(None);
     }
     let places = places_for(alloc, next, parts, choice)?;
+    let mut came = false;
     for row in places {
         let longer = choice_with_place(alloc, parts.count(), choice, next.part, *row)?;
-        if !explore(
+        let Some(more) = explore(
             alloc,
             state,
             steps,
@@ -301,15 +200,21 @@ fn explore(
             left - 1,
             next.node,
             longer.as_slice(),
-        )? {
-            return Ok(false);
-        }
+        )?
+        else {
+            return Ok(None);
+        };
         if is_answered(alloc, state, node, parts, out, choice)? {
-            return Ok(true);
+            return Ok(Some(true));
         }
+        came = is_either(came, more);
     }
-    remember(alloc, state, node, place, parts, choice)?;
-    Ok(true)
+    if came {
+        remember(alloc, state, node, place, parts, choice)?;
+        return Ok(Some(true));
+    }
+    remember_dead(alloc, state, node, place, parts, choice)?;
+    Ok(Some(false))
 }
 
 /// How many rows the parts have.
@@ -319,24 +224,6 @@ fn count_rows(parts: &Parts) -> usize {
         rows = rows.saturating_add(parts.rows(part).len());
     }
     rows
-}
-
-/// Nothing is explored yet.
-fn unexplored(alloc: Global, nodes: usize, rows: usize) -> Result<Explored, NoMemory>
-    ensures seen { IfOk result (λ state. (n : ℕ) (q : List Value) → plans.is_seen state n q ≡ false) }
-    ensures told { IfOk result (λ state. (q : List Value) → contains joins.same_row state.told q ≡ false) }
-    ensures found { IfOk result (λ state. state.found ≡ []) }
-{
-    let mut seen = Vec::with_capacity(alloc, nodes)?;
-    for _node in 0..nodes {
-        seen.push(HashSet::new(alloc))?;
-    }
-    Ok(Explored {
-        seen,
-        free: rows.saturating_add(FREE_STATES),
-        told: HashSet::new(alloc),
-        found: Found::new(alloc),
-    })
 }
 
 /// Whether the first node is that of no part.
@@ -384,6 +271,7 @@ pub fn find_answers(
     )?;
     let Explored {
         seen: _,
+        dead: _,
         free: _,
         told: _,
         found,
@@ -391,8 +279,8 @@ pub fn find_answers(
     if found.is_over(room) {
         return Ok(Some(None));
     }
-    if whole {
-        return Ok(Some(Some(found)));
+    match whole {
+        Some(_came) => Ok(Some(Some(found))),
+        None => Ok(None),
     }
-    Ok(None)
 }

@@ -14,6 +14,7 @@ mod found;
 mod from_rows;
 mod index;
 mod joins;
+mod known;
 mod links;
 mod matched;
 mod order;

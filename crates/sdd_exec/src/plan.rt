@@ -38,6 +38,9 @@ pub struct Next {
 #[derive(Drop)]
 pub struct Node {
     pub taken: Vec<usize>,
+    /// The columns of these parts that conditions tie to other parts: they tell whether any row of the
+    /// answer comes of a choice.
+    pub links: Vec<Ref>,
     /// The columns that tell what can come of a choice of these parts: those that conditions tie to
     /// other parts, and then the listed ones.
     pub marks: Vec<Ref>,
@@ -301,7 +304,9 @@ fn node_of(
 {
     let nexts = nexts_of(alloc, made, lists, parts, conds, out, &taken)?;
     let marks = marks_of(alloc, &taken, conds, out)?;
+    let links = links(alloc, &taken, conds)?;
     Ok(Node {
+        links,
         marks,
         is_whole: is_whole(parts.count(), &taken),
         is_listed: is_listed(&taken, out),

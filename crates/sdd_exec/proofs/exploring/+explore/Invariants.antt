@@ -1,4 +1,4 @@
-use Rattle.sdd_exec.proofs.All.{IsExploredBy, IsKept, StillHas, take}
+use Rattle.sdd_exec.proofs.All.{IsExploredBy, IsKept, NoneComesBy, StillHas, false, take, ◌≡◌}
 use Rattle.sdd_exec.proofs.exploring.+explore.Given as goal
 
 abbrev pub decreases-explore : goal.decreases-explore
@@ -10,4 +10,5 @@ invariant-loop-row l =
       kept : IsKept l.parts l.conds l.out l.nodes l.state;
       still : StillHas l.fn.state.found l.state.found;
       done : IsExploredBy l.parts l.conds l.out l.node.taken.items l.choice l.next.part (take l.row-index l.places) l.state.found;
+      none : l.came ≡ false → NoneComesBy l.parts l.conds l.node.taken.items l.choice l.next.part (take l.row-index l.places);
     }

@@ -1,4 +1,4 @@
-use Rattle.sdd_exec.proofs.exploring.remember.Goals as goal
+use Rattle.sdd_exec.proofs.known.remember.Goals as goal
 
 pub returns-clause-seen : goal.returns-clause-seen
 returns-clause-seen c = rw (c.in_ok-marks.ensures, c.as_slice.ensures.value) at c.add_seen.ensures

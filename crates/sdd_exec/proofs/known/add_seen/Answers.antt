@@ -1,6 +1,6 @@
 use Rattle.sdd_exec.proofs.All.{contains, same_row, ◌≡◌}
 use Rattle.sdd_exec.proofs.Kept.{added_or_there, changed_at}
-use Rattle.sdd_exec.proofs.exploring.add_seen.Goals as goal
+use Rattle.sdd_exec.proofs.known.add_seen.Goals as goal
 
 pub returns : goal.returns
 returns c =
