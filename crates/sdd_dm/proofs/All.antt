@@ -26,17 +26,26 @@ pub use Rattle.sdd_module.proofs.Does.{all_noted, does_reached, reached_more}
 pub use Rattle.sdd_module.proofs.Finding.{flat_map-map, found_at, map_twice, one_of}
 pub use Rattle.sdd_module.proofs.Making.{made_nothing, made_one}
 pub use Rattle.sdd_module.proofs.base.Membership.{Contains-cases, Contains-here, Contains-later, Contains-nil}
-pub use Rattle.sdd_module.proofs.lang.KeyRanges.{fragment_holds, key_in_range}
+pub use Rattle.sdd_module.proofs.catalog.Covering.{not_at_most}
+pub use Rattle.sdd_module.proofs.catalog.FragmentOf.{IsHolder, holder_of_key, one_holder, table_cover}
+pub use Rattle.sdd_module.proofs.lang.KeyRanges.{fragment_holds, key_in_range, at_most}
 pub use Rattle.sdd_module.proofs.lang.SortedEntries.{inserted_sorted, item_cmp_exact, item_cmp_total, sorted_nil}
 pub use Rattle.sdd_module.specs.All.{Act, Answer, Apply, Arrive, Bases, Catalogue, Change, ClassNo, Cond, D, Database, Did, DmNo, Does, Done, Entry, Fetch, FragNo, Handed, IsDatabase, IsEntry, IsSoundCatalogue, Item, Kept, Log, Msg, Notes, Null, Pass, Reached, Read, Ready, Rec, Records, Reduce, Reduced, RelNo, Row, Rows, Sends, Setting, Ship, Site, T, Ts, TxnNo, U, Use, Value, Values, Write, contains, database_of, first_some, fragment_at, fragment_of, goes_through, hands, has_copy, head_of, item_cmp, key_in, nothing_noted, or_else, with_row, with_sends}
+pub use Rattle.sdd_module.specs.catalog.Catalogue.{HoldsKey, IsOf, holds_key, parts_of}
+pub use Rattle.sdd_module.specs.catalog.Cover.{Cover, IsNumberFor, ranges_for}
+pub use Rattle.sdd_module.specs.catalog.Rules.{greatest_key, least_key}
+pub use Rattle.sdd_module.specs.catalog.declared.ranges.KeyRange.{KeyRange}
+pub use Rattle.sdd_module.specs.lang.Uses.{IsWithin, all_keys}
 pub use Rattle.sdd_pipe.proofs.Digests.{is_empty_digest, is_put, is_taken, last_write_is, passed_is}
 pub use Rattle.sdd_pipe.proofs.Updates.{length-update, set_is_update, update_past}
 pub use Rattle.sdd_pipe.specs.Digest.{Digest, IsDigest, empty_digest, put_digest, take_digest}
 pub use Rattle.sdd_pipe.specs.Pipe.{empty_pipe, head}
 pub use Rattle.sdd_pipe.specs.Pipes.{pipe_at, update}
-pub use Rattle.std.proofs.Common.{All, Bool, Bor, Contains, Equal, Greater, IsTrue, Less, List, None, OnOk, Option, Ordering, Result, SFits as FitsSigned, Some, [], ap, append-nil, append_assoc, arith, cond, drop, false, filter, find, flat_map, fold, if◌then◌else◌, inl, inr, int_cmp, is_eq, is_some, length, map, nat_cmp, not, option_map, refl, replicate, rules, slice_get, slice_index_or, subst, suc, sym, take, take_all, to_z-of_z, true, w64, zero, ℕ, ℤ, ◌&&◌, ◌++◌, ◌+◌, ◌-◌, ◌<◌, ◌==◌, ◌||◌, ◌∙◌, ◌∷◌, ◌≡◌, ◌≢◌, ◌≤◌, ◌⊎◌}
+pub use Rattle.std.proofs.Common.{All, Bool, Bor, Contains, Equal, Greater, IsTrue, Less, List, None, OnOk, Option, Ordering, Result, SFits as FitsSigned, Some, [], ap, append-nil, append_assoc, arith, cond, drop, false, filter, find, flat_map, fold, if◌then◌else◌, inl, inr, int_cmp, is_eq, is_some, length, map, nat_cmp, not, option_map, refl, replicate, rules, slice_get, slice_index_or, subst, suc, sym, take, take_all, to_z-of_z, true, w64, zero, ℕ, ℤ, ◌&&◌, ◌++◌, ◌+◌, ◌-◌, ◌<◌, ◌==◌, ◌||◌, ◌∙◌, ◌∷◌, ◌≡◌, ◌≢◌, ◌≤◌, ◌⊎◌, IfSome, int_le, pos, ◌≤ℤ◌}
+pub use Rattle.std.proofs.lemmas.Bool.{cases_lt}
 pub use Rattle.std.proofs.lemmas.Bool.Decides.{nat_tests}
-pub use Rattle.std.proofs.lemmas.List.{length-replicate}
+pub use Rattle.std.proofs.lemmas.Int.{ints}
+pub use Rattle.std.proofs.lemmas.List.{get_or_default, length-replicate}
 pub use Rattle.std.proofs.lemmas.List.Elements.{All-contains, All-filter, All-head, All-tail, Contains-append_cases, Contains-append_left, Contains-append_right}
 pub use Rattle.std.proofs.lemmas.Map.Keys.{IsDistinct-from_sorted, IsDistinct-head, IsDistinct-tail, sorted_head, sorted_tail}
 pub use Rattle.std.proofs.lemmas.Map.Lookups.{CmpEqualImpliesEq}

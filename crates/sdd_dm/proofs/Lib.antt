@@ -11,6 +11,7 @@ pub mod Handed
 pub mod Left
 pub mod LowestClass
 pub mod Messages
+pub mod OneFragment
 pub mod OwnRows
 pub mod Prefix
 pub mod Ranks

@@ -1,7 +1,8 @@
 //! What a data module begins with.
-ghost use Rattle.std.specs.Prelude.{◌≡◌, ◌≤◌, ◌∷◌, ℕ, IfOk, OnOk, IsTrue, length, map, fold, replicate, is_some, slice_index_or, true, false, Some, None};
+ghost use Rattle.std.specs.Prelude.{◌≡◌, ◌≤◌, ◌∷◌, ℕ, IfOk, IfSome, OnOk, IsTrue, length, map, fold, replicate, is_some, slice_index_or, true, false, Some, None};
 ghost use Rattle.std.specs.List.{All};
-ghost use Rattle.sdd_module.specs.All.{FitsStart, IsEntry, T, U, database_of, has_copy};
+ghost use Rattle.sdd_module.specs.All.{FitsStart, IsEntry, T, U, database_of, fragment_of, has_copy};
+ghost use Rattle.sdd_module.specs.catalog.Catalogue.{holds_key};
 ghost use Rattle.sdd_copy.specs.Copies.{Represent, is_here, with_change};
 ghost use Rattle.sdd_dm.specs.Copies.{first_row};
 ghost use Rattle.sdd_dm.specs.Starts.{lent, own_rows, with_own};
@@ -111,33 +112,65 @@ fn own_rows<'a>(
     ensures { IfOk result (λ own. map lent own.entries ≡ own_rows catalogue.now copies.now.value rows.now) }
 {
     let mut own = BTreeMap::new(alloc);
+    let mut before = None;
     for (rel, row) in rows {
-        add_row(&mut own, catalogue, copies, *rel, row)?;
+        before = Some(add_row(&mut own, catalogue, copies, before, *rel, row)?);
     }
     Ok(own)
 }
 
-/// Adds a row, where its fragment has a copy.
+/// Adds a row, where its fragment has a copy. `before` is the fragment of the row before; that of
+/// this row is given back.
 fn add_row<'a>(
     own: &mut BTreeMap<(u32, i64), &'a Row>,
     catalogue: &Catalogue,
     copies: &Copies,
+    before: Option<FragNo>,
     rel: RelNo,
     row: &'a Row,
-) -> Result<(), NoMemory>
+) -> Result<FragNo, NoMemory>
     requires live { IsTrue copies.now.live }
     requires fits { FitsStart catalogue.now (rel, row.now) }
-    ensures { OnOk result (map lent own.new.entries
+    requires before { IfSome before (λ frag. (1 ≤ frag.0) × (frag.0 ≤ length catalogue.now.fragments)) }
+    ensures there { IfOk result (λ frag. (1 ≤ frag.0) × (frag.0 ≤ length catalogue.now.fragments)) }
+    ensures entries { OnOk result (map lent own.new.entries
         ≡ with_own catalogue.now copies.now.value (map lent own.old.entries) (rel, row.now)) }
 {
     let key = key_of(catalogue, rel, row);
-    match copies.at(catalogue.fragment_of(rel, key)) {
-        None => Ok(()),
+    let frag = fragment_after(catalogue, before, rel, key);
+    match copies.at(frag) {
+        None => Ok(frag),
         Some(_) => {
             own.insert((rel.0, key), row)?;
-            Ok(())
+            Ok(frag)
         }
     }
+}
+
+/// The fragment of a row, after a row of a fragment: rows of one fragment often stand together, so
+/// that one is tried first.
+fn fragment_after(catalogue: &Catalogue, before: Option<FragNo>, rel: RelNo, key: i64) -> FragNo
+    requires before { IfSome before (λ frag. (1 ≤ frag.0) × (frag.0 ≤ length catalogue.now.fragments)) }
+    requires from { 1 ≤ rel.0 }
+    requires to { rel.0 ≤ length catalogue.now.relations }
+    ensures there { (1 ≤ result.0) × (result.0 ≤ length catalogue.now.fragments) }
+    ensures number { result.0 ≡ fragment_of catalogue.now rel.0 key }
+{
+    catalogue.law_is_sound();
+    match before {
+        Some(frag) if has_key(catalogue, frag, rel, key) => frag,
+        _ => catalogue.fragment_of(rel, key),
+    }
+}
+
+/// Whether a fragment is of the relation, and its range holds the key.
+fn has_key(catalogue: &Catalogue, frag: FragNo, rel: RelNo, key: i64) -> bool
+    requires from { 1 ≤ frag.0 }
+    requires to { frag.0 ≤ length catalogue.now.fragments }
+    ensures { result ≡ holds_key catalogue.now rel.0 key frag.0 }
+{
+    let fragment = catalogue.fragment(frag);
+    fragment.rel.0 == rel.0 && fragment.least <= key && key <= fragment.greatest
 }
 
 /// Writes the rows of the fragments that have copies, dated 0.

@@ -55,13 +55,13 @@ abbrev pub EndsIt : World → Event → List ClassList → Type 0
 EndsIt w e lists = (g : Input) (log : Log) → Represents w g log → IsAllowed g e lists → EndsBy (with_event g e)
 
 -- a settle is carried out as the event that it is
-pub settle_goes : (w : World) (e : Event) (lists : List ClassList) (res : Result World WorldEnd) → e ≡ Settle
-    → IfOk res (λ next. (g : Input) (log : Log) → Represents w g log → IsGood (with_event g Settle)
+pub settle_goes : {T : Type 0} (w next : World) (e : Event) (lists : List ClassList) (res : Result T WorldEnd) → e ≡ Settle
+    → IfOk res (λ _. (g : Input) (log : Log) → Represents w g log → IsGood (with_event g Settle)
     → (more : Log) × Represents next (with_event g Settle) more)
-    → IfOk res (GoesOn w e lists)
-settle_goes w e lists (Ok next) is law = λ g log s a.
+    → IfOk res (λ _. GoesOn w e lists next)
+settle_goes w next e lists (Ok _) is law = λ g log s a.
     subst (λ x. (more : Log) × Represents next (with_event g x) more) (sym is) (law g log s (subst (λ x. IsGood (with_event g x)) is a.good))
-settle_goes w e lists (Err end) is law = tt
+settle_goes w next e lists (Err end) is law = tt
 
 pub settle_ends : (w : World) (e : Event) (lists : List ClassList) → e ≡ Settle
     → ((g : Input) (log : Log) → Represents w g log → IsGood (with_event g Settle) → EndsBy (with_event g Settle)) → EndsIt w e lists
@@ -76,18 +76,18 @@ next_list g lists rest first is a = subst (IsListed g) is (a.listed refl)
 pub some_list : (g : Input) (lists : List ClassList) → lists ≡ [] → IsAllowed g Redeclare lists → ⊥
 some_list g lists none a = subst (IsListed g) none (a.listed refl)
 
-pub redeclare_goes : (w : World) (e : Event) (lists : List ClassList) (res : Result World WorldEnd) → e ≡ Redeclare
-    → IfOk res (GoesOn w Redeclare lists) → IfOk res (GoesOn w e lists)
-redeclare_goes w e lists (Ok next) is law = subst (λ x. GoesOn w x lists next) (sym is) law
-redeclare_goes w e lists (Err end) is law = tt
+pub redeclare_goes : {T : Type 0} (w next : World) (e : Event) (lists : List ClassList) (res : Result T WorldEnd) → e ≡ Redeclare
+    → IfOk res (λ _. GoesOn w Redeclare lists next) → IfOk res (λ _. GoesOn w e lists next)
+redeclare_goes w next e lists (Ok _) is law = subst (λ x. GoesOn w x lists next) (sym is) law
+redeclare_goes w next e lists (Err end) is law = tt
 
 -- any other event is carried out by a step
-pub step_goes : (w : World) (e : Event) (lists : List ClassList) (res : Result World WorldEnd) → takes_rounds e ≡ false
-    → IfOk res (λ next. (g : Input) (log : Log) → Represents w g log → IsPossible g e
+pub step_goes : {T : Type 0} (w next : World) (e : Event) (lists : List ClassList) (res : Result T WorldEnd) → takes_rounds e ≡ false
+    → IfOk res (λ _. (g : Input) (log : Log) → Represents w g log → IsPossible g e
     → IsGood (with_event g e) → (more : Log) × Represents next (with_event g e) more)
-    → IfOk res (GoesOn w e lists)
-step_goes w e lists (Ok next) is law = λ g log s a. law g log s (a.possible is) a.good
-step_goes w e lists (Err end) is law = tt
+    → IfOk res (λ _. GoesOn w e lists next)
+step_goes w next e lists (Ok _) is law = λ g log s a. law g log s (a.possible is) a.good
+step_goes w next e lists (Err end) is law = tt
 
 -- all events are carried out
 pub carried_all : (w : World) (g now : Input) (log : Log) (events : List Event) (all : Input) → Represents w now log → events ≡ []

@@ -13,6 +13,7 @@
 //! the site of a transaction; `Mail` carries messages as the bytes that spell them.
 #![tactic(auto)]
 
+mod adding;
 mod commits;
 mod ends;
 mod homes;

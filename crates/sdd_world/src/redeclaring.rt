@@ -5,7 +5,6 @@ ghost use Rattle.sdd_world.specs.Represents.{EndsBy, IsNextList, Redeclaring, Re
 
 use crate::ends::WorldEnd;
 use crate::world::World;
-use sdd_base::Event;
 use sdd_catalog::Catalogue;
 use sdd_protocol::Table;
 
@@ -57,9 +56,7 @@ impl<'a> World<'a> {
             → Represents self.entry g log → IsGood (with_event g Redeclare)
             → IsNextList g catalogue.now table.now → EndsBy (with_event g Redeclare) }
     {
-        self.given.push(Event::Redeclare)?;
-        self.run_rounds()?;
-        self.put_in_force(catalogue, table)?;
+        self.add_redeclare(catalogue, table)?;
         Ok(self)
     }
 }

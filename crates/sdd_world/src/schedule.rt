@@ -19,46 +19,69 @@ pub struct ClassList<'a> {
 
 /// Puts the first of these class lists in force.
 fn redeclare_first<'a>(
-    world: World<'a>,
+    world: &mut World<'a>,
     lists: &mut VecDeque<ClassList<'a>>,
-) -> Result<World<'a>, WorldEnd>
-    requires { (g : Input) × (log : Log) × Represents world g log
+) -> Result<(), WorldEnd>
+    requires { (g : Input) × (log : Log) × Represents world.old g log
         × IsAllowed g Redeclare lists.old.items }
-    ensures log { IfOk result (λ next. (g : Input) (log : Log) → Represents world.entry g log
+    ensures log { IfOk result (λ _. (g : Input) (log : Log) → Represents world.old g log
         → IsAllowed g Redeclare lists.old.items
-        → (more : Log) × Represents next (with_event g Redeclare) more) }
+        → (more : Log) × Represents world.new (with_event g Redeclare) more) }
     ensures limit { IsErrOf result WorldEnd.Limit → (g : Input) (log : Log)
-        → Represents world.entry g log → IsAllowed g Redeclare lists.old.items
+        → Represents world.old g log → IsAllowed g Redeclare lists.old.items
         → EndsBy (with_event g Redeclare) }
     ensures others { lists.new.items ≡ lists_after Redeclare lists.old.items }
 {
     match lists.pop_front() {
-        Some(first) => world.redeclare(first.catalogue, first.table),
+        Some(first) => world.add_redeclare(first.catalogue, first.table),
         None => unreachable!(),
     }
 }
 
 /// Carries out one event of a schedule.
 fn carry_out_one<'a>(
-    world: World<'a>,
+    world: &mut World<'a>,
     event: &Event,
     lists: &mut VecDeque<ClassList<'a>>,
-) -> Result<World<'a>, WorldEnd>
-    requires { (g : Input) × (log : Log) × Represents world g log
+) -> Result<(), WorldEnd>
+    requires { (g : Input) × (log : Log) × Represents world.old g log
         × IsAllowed g event.now lists.old.items }
-    ensures log { IfOk result (λ next. (g : Input) (log : Log) → Represents world.entry g log
+    ensures log { IfOk result (λ _. (g : Input) (log : Log) → Represents world.old g log
         → IsAllowed g event.now lists.old.items
-        → (more : Log) × Represents next (with_event g event.now) more) }
+        → (more : Log) × Represents world.new (with_event g event.now) more) }
     ensures limit { IsErrOf result WorldEnd.Limit → (g : Input) (log : Log)
-        → Represents world.entry g log → IsAllowed g event.now lists.old.items
+        → Represents world.old g log → IsAllowed g event.now lists.old.items
         → EndsBy (with_event g event.now) }
     ensures others { lists.new.items ≡ lists_after event.now lists.old.items }
 {
     match event {
-        Event::Settle => world.settle(),
+        Event::Settle => world.add_settle(),
         Event::Redeclare => redeclare_first(world, lists),
-        _ => world.step(event),
+        _ => world.add_event(event),
     }
+}
+
+/// Carries out the events of a schedule, in order, in place.
+fn carry_out_all<'a>(
+    world: &mut World<'a>,
+    events: Vec<Event>,
+    lists: Vec<ClassList<'a>>,
+) -> Result<(), WorldEnd>
+    requires { (g : Input) × (log : Log) × Represents world.old g log
+        × AreAllowed g events.items lists.items }
+    ensures log { IfOk result (λ _. (g : Input) (log : Log) → Represents world.old g log
+        → AreAllowed g events.items lists.entry.items
+        → (more : Log) × Represents world.new (with_events g events.items) more) }
+    ensures limit { IsErrOf result WorldEnd.Limit → (g : Input) (log : Log)
+        → Represents world.old g log → AreAllowed g events.items lists.entry.items
+        → EndsBy (with_events g events.items) }
+{
+    let mut left = VecDeque::from_vec(events);
+    let mut further = VecDeque::from_vec(lists);
+    while let Some(event) = left.pop_front() {
+        carry_out_one(world, &event, &mut further)?;
+    }
+    Ok(())
 }
 
 /// Carries out the events of a schedule, in order. Each `Redeclare` among them puts the next of the
@@ -71,7 +94,7 @@ fn carry_out_one<'a>(
 ///
 /// Where an event, or a message of a link, would pass the limit, and where memory runs out.
 pub fn carry_out<'a>(
-    world: World<'a>,
+    mut world: World<'a>,
     events: Vec<Event>,
     lists: Vec<ClassList<'a>>,
 ) -> Result<World<'a>, WorldEnd>
@@ -84,11 +107,6 @@ pub fn carry_out<'a>(
         → Represents world.entry g log → AreAllowed g events.items lists.entry.items
         → EndsBy (with_events g events.items) }
 {
-    let mut now = world;
-    let mut left = VecDeque::from_vec(events);
-    let mut further = VecDeque::from_vec(lists);
-    while let Some(event) = left.pop_front() {
-        now = carry_out_one(now, &event, &mut further)?;
-    }
-    Ok(now)
+    carry_out_all(&mut world, events, lists)?;
+    Ok(world)
 }

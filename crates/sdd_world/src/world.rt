@@ -326,8 +326,7 @@ impl<'a> World<'a> {
             → Represents self.entry g log → IsPossible g event.now → IsGood (with_event g event.now)
             → EndsBy (with_event g event.now) }
     {
-        self.given.push(*event)?;
-        self.apply_event(event)?;
+        self.add_event(event)?;
         Ok(self)
     }
 
@@ -347,8 +346,7 @@ impl<'a> World<'a> {
             → Represents self.entry g log → IsGood (with_event g Settle)
             → EndsBy (with_event g Settle) }
     {
-        self.given.push(Event::Settle)?;
-        self.run_rounds()?;
+        self.add_settle()?;
         Ok(self)
     }
 }
