@@ -1,7 +1,9 @@
 pub mod Flooding
 pub mod Steps
 pub mod Pivots
+pub mod StandingFor
 pub mod KeyRanges
 pub mod AccessLists
 pub mod Deleted
 pub mod Workloads
+pub mod ByRelation

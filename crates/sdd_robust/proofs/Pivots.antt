@@ -137,13 +137,6 @@ no_pivot_of all beside pivot n e l none d =
     each_all (λ read. (c a : List Access) → Closes (kinds beside) pivot.accesses read c a → ⊥) pivot.accesses n l none d.read d.of_read
     d.missed d.missing (subst (λ z. Closes (kinds z) pivot.accesses d.read d.missed d.missing) (sym e) (closes all pivot.accesses d))
 
-pub no_pivot : (all : List Member) (n : ℕ) → length all ≤ n
-    → ((m : Member) → Contains (take n all) m → IsDangerous (kinds all) m.accesses → ⊥)
-    → (pivot : List Access) → Contains (kinds all) pivot → IsDangerous (kinds all) pivot → ⊥
-no_pivot all n l none pivot there d =
-    let m = Contains-from_map (λ (m : Member). m.accesses) all pivot there in
-    each_all (λ (m : Member). IsDangerous (kinds all) m.accesses → ⊥) all n l none m.0 m.1 (subst (IsDangerous (kinds all)) m.2 d)
-
 -- none of those that are reached may miss a change of the pivot
 pub none_missing : (given items : List (Bor Member)) (pivot : List Access) (read : Access) (n : ℕ) → given ≡ items → length (lent given) ≤ n
     → ((m : Member) → Contains (take n (lent given)) m → may_miss m.accesses pivot read ≡ false)

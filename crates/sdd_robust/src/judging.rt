@@ -46,8 +46,12 @@ pub fn members(
 /// workload is robust: each run of its transactions under snapshot isolation, each any number of times,
 /// is like a serial one. Where there is a pivot, the workload may be robust or not.
 ///
-/// Costs, for each two transactions, time in the accesses of one times those of the other; and for each
-/// access by which a transaction may miss changes of others, that once more for each of these.
+/// Costs for each two transactions a comparison of what they access, up to where it differs. Of those with
+/// the same accesses only the first counts for the rest: for each access time in the changes of its
+/// relation, and for each two transactions of which one may miss a change of the other time in the accesses
+/// of both. For a transaction that may miss a change and of which a change may be missed it costs for each
+/// access time in all accesses; and where the two differ, for each of those that it may miss once more what
+/// it costs to follow conflicts, which is up to the accesses of each two transactions.
 pub fn find_pivot(
     alloc: Global,
     catalogue: &Catalogue,

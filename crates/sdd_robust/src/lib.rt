@@ -10,6 +10,7 @@
 #![tactic(auto)]
 
 mod accessing;
+mod changing;
 mod columns;
 mod judging;
 mod key_range;
@@ -19,10 +20,11 @@ mod meanwhile;
 mod meeting;
 mod member;
 mod pivot;
+mod same;
 mod staying;
 
+pub use changing::Changes;
 pub use judging::{Places, find_pivot, members};
-pub use meanwhile::beside;
-pub use meeting::{conflict, may_miss, reads_from};
+pub use meeting::{are_apart, conflict, may_miss, reads_from};
 pub use member::{Accesses, Member};
 pub use pivot::{Pivot, first_pivot};

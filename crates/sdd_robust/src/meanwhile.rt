@@ -9,18 +9,18 @@ use sdd_lang::NoMemory;
 use sdd_robust_laws::Access;
 use std::alloc::Global;
 
-/// Those that may run while the pivot does, and both commit.
-pub fn beside<'a>(
+/// Those of the members that may run while the pivot does, and both commit.
+pub(crate) fn beside<'a>(
     alloc: Global,
-    all: &'a [Member],
+    members: &[&'a Member],
     pivot: &[Access],
 ) -> Result<Vec<&'a Member>, NoMemory>
-    ensures { IfOk result (λ found. lent found.items ≡ filter (λ m. not (are_apart pivot.now m.accesses)) all.now) }
+    ensures { IfOk result (λ found. lent found.items ≡ filter (λ m. not (are_apart pivot.now m.accesses)) (lent members.now)) }
 {
     let mut found = Vec::new(alloc);
-    'members: for other in all {
+    'members: for other in members {
         if !are_apart(pivot, other.accesses.as_slice()) {
-            found.push(other)?;
+            found.push(*other)?;
         }
     }
     Ok(found)

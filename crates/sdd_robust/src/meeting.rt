@@ -28,7 +28,7 @@ fn columns_meet(a: u32, b: u32) -> bool
 }
 
 /// Whether both have a column of a row.
-fn meets(x: &Access, y: &Access) -> bool
+pub(crate) fn meets(x: &Access, y: &Access) -> bool
     ensures { result ≡ meets x.now y.now }
 {
     rows_meet(x, y) && columns_meet(x.column, y.column)
@@ -97,7 +97,7 @@ pub fn reads_from(x: &Access, others: &[Access]) -> bool
 }
 
 /// Whether the access may change what the transaction may read.
-fn changes_for(y: &Access, others: &[Access]) -> bool
+pub(crate) fn changes_for(y: &Access, others: &[Access]) -> bool
     ensures { result ≡ changes_for y.now others.now }
 {
     y.changes && one_reads(y, others)
@@ -130,7 +130,7 @@ fn changes_for_sure(x: &Access, others: &[Access]) -> bool
 }
 
 /// Whether both change one row for sure: then no two runs of them that are at once may both commit.
-pub(crate) fn are_apart(xs: &[Access], ys: &[Access]) -> bool
+pub fn are_apart(xs: &[Access], ys: &[Access]) -> bool
     ensures { result ≡ are_apart xs.now ys.now }
 {
     xs.iter().any(|x| changes_for_sure(x, ys))

@@ -1,18 +1,21 @@
 //! The first transaction that may be the pivot of a run that is like no serial one.
 ghost use Rattle.std.specs.Prelude.{◌≡◌, true, false, IfNone, IfSome, IfOk, Contains, List, MatchOption, not};
 ghost use Rattle.std.specs.List.{list_any};
-ghost use Rattle.sdd_robust_laws.specs.Accesses.{reads_from};
+ghost use Rattle.sdd_robust_laws.specs.Accesses.{changes_for, reads_from};
 ghost use Rattle.sdd_robust_laws.specs.Shown.{IsDangerous};
 ghost use Rattle.sdd_robust_laws.specs.declared.access.Access.{Access};
+ghost use Rattle.sdd_robust.specs.Changing.{is_read_by_one};
 ghost use Rattle.sdd_robust.specs.Leading.{Leads};
-ghost use Rattle.sdd_robust.specs.Members.{kinds, lent};
+ghost use Rattle.sdd_robust.specs.Members.{StandFor, kinds, lent};
 ghost use Rattle.sdd_robust.specs.Pivots.{Closes, IsPivot, may_miss};
 ghost use Rattle.sdd_robust.specs.declared.member.Member.{Member};
 
+use crate::changing::Changes;
 use crate::linked::linked;
 use crate::meanwhile::beside;
-use crate::meeting::{may_miss, reads_from};
+use crate::meeting::{changes_for, may_miss, reads_from};
 use crate::member::Member;
+use crate::same::first_of_each;
 use sdd_lang::NoMemory;
 use sdd_robust_laws::Access;
 use std::alloc::Global;
@@ -27,14 +30,33 @@ pub struct Pivot<'a> {
 }
 
 /// The first transaction that is a pivot, where there is one; of its reading accesses the first by which
-/// it is one, and by that one the first that it may miss.
+/// it is one, and by that one the first that it may miss. Looks among the first ones of those with the same
+/// accesses, since one with the same accesses is a pivot just as well.
 pub fn first_pivot(alloc: Global, all: &[Member]) -> Result<Option<Pivot<'_>>, NoMemory>
     ensures none { IfOk result (λ found. IfNone found ((pivot : List Access) → Contains (kinds all.now) pivot
         → IsDangerous (kinds all.now) pivot → ⊥)) }
     ensures found { IfOk result (λ found. IfSome found (λ p. IsPivot all.now p.pivot.now p.missed.now p.missing.now)) }
 {
-    'members: for member in all {
-        match pivot_of(alloc, all, member)? {
+    let changes = Changes::of(alloc, all)?;
+    let few = first_of_each(alloc, all)?;
+    first_among(alloc, all, few.as_slice(), &changes)
+}
+
+/// The first of these that is a pivot, where there is one.
+fn first_among<'a>(
+    alloc: Global,
+    all: &[Member],
+    few: &[&'a Member],
+    changes: &Changes,
+) -> Result<Option<Pivot<'a>>, NoMemory>
+    requires few { StandFor all.now (lent few.now) }
+    requires changes { changes.now ≡ all.now }
+    ensures none { IfOk result (λ found. IfNone found ((pivot : List Access) → Contains (kinds all.now) pivot
+        → IsDangerous (kinds all.now) pivot → ⊥)) }
+    ensures found { IfOk result (λ found. IfSome found (λ p. IsPivot all.now p.pivot.now p.missed.now p.missing.now)) }
+{
+    'members: for member in few {
+        match pivot_among(alloc, all, few, changes, *member)? {
             Some(found) => return Ok(Some(found)),
             None => {}
         }
@@ -42,17 +64,59 @@ pub fn first_pivot(alloc: Global, all: &[Member]) -> Result<Option<Pivot<'_>>, N
     Ok(None)
 }
 
-/// The first two by which the transaction is a pivot.
-fn pivot_of<'a>(
+/// Whether the transaction may read what the pivot changes.
+fn reads_change(other: &[Access], pivot: &[Access]) -> bool
+    ensures { result ≡ list_any (λ change. changes_for change other.now) pivot.now }
+{
+    pivot.iter().any(|change| changes_for(change, other))
+}
+
+/// Whether some transaction may read what the pivot changes.
+fn is_read_by_one(all: &[Member], pivot: &[Access]) -> bool
+    ensures { result ≡ is_read_by_one all.now pivot.now }
+{
+    all.iter()
+        .any(|other| reads_change(other.accesses.as_slice(), pivot))
+}
+
+/// The first two by which the transaction is a pivot. Looks for them only where it may miss a change of
+/// some transaction.
+fn pivot_among<'a>(
     alloc: Global,
-    all: &'a [Member],
+    all: &[Member],
+    few: &[&'a Member],
+    changes: &Changes,
     pivot: &'a Member,
 ) -> Result<Option<Pivot<'a>>, NoMemory>
-    requires { Contains all.now pivot.now }
+    requires few { StandFor all.now (lent few.now) }
+    requires there { Contains (lent few.now) pivot.now }
+    requires changes { changes.now ≡ all.now }
     ensures none { IfOk result (λ found. IfNone found (IsDangerous (kinds all.now) pivot.now.accesses → ⊥)) }
     ensures found { IfOk result (λ found. IfSome found (λ p. IsPivot all.now p.pivot.now p.missed.now p.missing.now)) }
 {
-    let beside = beside(alloc, all, pivot.accesses.as_slice())?;
+    if !changes.misses_one(pivot.accesses.as_slice()) {
+        return Ok(None);
+    }
+    pivot_of(alloc, all, few, pivot)
+}
+
+/// The first two by which the transaction is a pivot. Looks for them only where some transaction may
+/// read what it changes.
+fn pivot_of<'a>(
+    alloc: Global,
+    all: &[Member],
+    few: &[&'a Member],
+    pivot: &'a Member,
+) -> Result<Option<Pivot<'a>>, NoMemory>
+    requires few { StandFor all.now (lent few.now) }
+    requires there { Contains (lent few.now) pivot.now }
+    ensures none { IfOk result (λ found. IfNone found (IsDangerous (kinds all.now) pivot.now.accesses → ⊥)) }
+    ensures found { IfOk result (λ found. IfSome found (λ p. IsPivot all.now p.pivot.now p.missed.now p.missing.now)) }
+{
+    if !is_read_by_one(all, pivot.accesses.as_slice()) {
+        return Ok(None);
+    }
+    let beside = beside(alloc, few, pivot.accesses.as_slice())?;
     'reads: for read in pivot.accesses.as_slice() {
         match pivot_by(alloc, beside.as_slice(), pivot, read)? {
             Some(found) => return Ok(Some(found)),

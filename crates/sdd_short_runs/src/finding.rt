@@ -12,6 +12,7 @@ ghost use Rattle.sdd_short_runs.specs.ShortRuns.{IsShortCounterexample, after_ef
 
 use crate::candidates::{Candidate, candidates_of};
 use crate::carrying::{all_commit, changes_of, effect_after, run_in_turn};
+use crate::near::Near;
 use crate::orders::{Run, has_order};
 use sdd_lang::{Catalogue, Effect, NoMemory, RelNo, Row, Txn, law_rows_make_database};
 use sdd_plain::Plain;
@@ -203,7 +204,7 @@ fn first_of_length<'a>(
     catalogue: &Catalogue,
     base: &Plain,
     txns: &'a [Txn],
-    all: &[Member],
+    near: &mut Near,
     length: usize,
 ) -> Result<Option<ShortRun<'a>>, NoMemory>
     requires database { IsDatabase catalogue.now base.now.value }
@@ -211,9 +212,9 @@ fn first_of_length<'a>(
     ensures { IfOk result (λ found. IfSome found (λ s. IsShortCounterexample catalogue.now txns.now base.now.value s.outer.now (lent_txns s.inner.items))) }
 {
     let mut left = MAX_TRIED;
-    'pivots: for pivot in all {
+    'pivots: for pivot in 0..near.count() {
         if left > 0 {
-            let candidates = candidates_of(alloc, all, pivot, length, left)?;
+            let candidates = candidates_of(alloc, near, pivot, length, left)?;
             match first_of(alloc, catalogue, base, txns, candidates.as_slice())? {
                 Some(short) => return Ok(Some(short)),
                 None => left = left.saturating_sub(candidates.len()),
@@ -227,7 +228,9 @@ fn first_of_length<'a>(
 /// the changes of the first inner one and the last one may miss its changes; of those with one inner
 /// transaction 256 are tried, then as many with two and with three.
 ///
-/// Takes memory for the database, and for a run that is tried for its rows. Carrying one out costs what
+/// Costs for each transaction that conflicts with a pivot, or with one of those beside it, time in its
+/// accesses times all others, once. Takes memory for the database, for the numbers of those with which
+/// such transactions conflict, and for a run that is tried for its rows. Carrying one out costs what
 /// its transactions cost on the database; comparing it with all orders some sixty times as much at most.
 pub fn find_counterexample<'a>(
     alloc: Global,
@@ -243,8 +246,9 @@ pub fn find_counterexample<'a>(
 {
     law_rows_make_database(catalogue, rows);
     let base = Plain::new(alloc, catalogue, rows)?;
+    let mut near = Near::new(alloc, all)?;
     'lengths: for length in 1..MAX_INNER + 1 {
-        match first_of_length(alloc, catalogue, &base, txns, all, length)? {
+        match first_of_length(alloc, catalogue, &base, txns, &mut near, length)? {
             Some(short) => return Ok(Some(short)),
             None => {}
         }

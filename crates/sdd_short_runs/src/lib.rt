@@ -8,6 +8,7 @@
 mod candidates;
 mod carrying;
 mod finding;
+mod near;
 mod orders;
 
 pub use finding::{ShortRun, find_counterexample};

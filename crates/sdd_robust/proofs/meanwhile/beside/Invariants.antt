@@ -6,4 +6,4 @@ use Rattle.sdd_robust.proofs.meanwhile.beside.Given as goal
 
 -- those of the members so far that may run while the pivot does
 abbrev pub invariant-members : goal.invariant-members
-invariant-members l = lent l.found.items ≡ filter (λ (m : Member). not (are_apart l.pivot m.accesses)) (take l.other-index l.all)
+invariant-members l = lent l.found.items ≡ filter (λ (m : Member). not (are_apart l.pivot m.accesses)) (lent (take l.other-index l.members))
