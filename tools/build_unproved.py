@@ -9,8 +9,9 @@ as many instructions as the one that the proof builds, and does anything at all 
 an end. Without it, it stops there, and takes a tenth more, for a catalogue twice as many.
 
 `rt try` compiles a whole program to one module for clang, with checks that stop a program which breaks a contract.
-This catches the module, takes those checks away, and compiles it with the compiler of the kit. It is linked as
-tools/link_program.py says, whose word --libc is. It needs `rt` and `gcc`.
+This catches the module, takes those checks away, puts in the marks `#[inline(always)]` of the repository's functions,
+which `rt try` leaves out, and compiles it with the compiler of the kit. It is linked as tools/link_program.py says,
+whose word --libc is. It needs `rt` and `gcc`.
 """
 import os
 import re
@@ -24,6 +25,8 @@ from sdd.programs import ROOT
 
 CHECKS = re.compile(rb"call void @\"rattle-llvm-checks::|llvm\.memset\.p0\.i64\(ptr %r[0-9]+, i8 -86,")
 BOUNDS = re.compile(rb"call void @llvm\.trap\(\)")
+MARKED = re.compile(r"#\[inline\(always\)\]\n(?:#\[.*\n)*(?:pub(?:\([a-z]+\))? )?fn (\w+)")
+DEFINED = re.compile(rb'(define .*?@"([^"]+)"\(.*\) )(#[0-9]+ \{\n)')
 FLAGS = ["-O3", "-march=x86-64", "-fno-vectorize", "-fno-slp-vectorize"]
 
 
@@ -67,15 +70,35 @@ def clang_of(kit):
     return os.path.join(kit, "toolchain", "bin", "clang")
 
 
+def marked():
+    """The functions of the repository that the text marks `#[inline(always)]`, by their names in a module."""
+    crates, found = os.path.join(ROOT, "crates"), set()
+    for at, _, names in os.walk(crates):
+        for name in (it for it in names if it.endswith(".rt")):
+            crate, src, *path = os.path.relpath(os.path.join(at, name), crates).removesuffix(".rt").split(os.sep)
+            if src == "src":
+                with open(os.path.join(at, name), encoding="utf-8") as f:
+                    found.update("::".join([crate, *path, it]) for it in MARKED.findall(f.read()))
+    return found
+
+
+def with_mark(line, names):
+    """A line of a module, with the mark of its function, which `rt try` leaves out and the proof's build has."""
+    begins = DEFINED.fullmatch(line)
+    if begins and begins.group(2).split(b"::<")[0].decode() in names:
+        return begins.group(1) + b"alwaysinline " + begins.group(3)
+    return line
+
+
 def plain_text(crate, room, as_proved):
     """The program's module as a text for clang, in a file of the folder ROOM, without the checks of `rt try`."""
-    module = caught(crate, room)
+    module, names = caught(crate, room), marked()
     text, plain = (os.path.join(room, it) for it in ("m.ll", "plain.ll"))
     run([clang_of(kit_folder()), "-x", "ir", module, "-S", "-emit-llvm", "-Xclang", "-disable-llvm-passes", "-o", text])
     with open(text, "rb") as lines, open(plain, "wb") as out:
         for line in lines:
             if not CHECKS.search(line) and not (as_proved and BOUNDS.search(line)):
-                out.write(line.replace(b" sanitize_address ", b" "))
+                out.write(with_mark(line, names).replace(b" sanitize_address ", b" "))
     os.remove(text)
     return plain
 

@@ -1,4 +1,6 @@
 pub mod Changes
+pub mod EventWords
 pub mod Loops
 pub mod Members
 pub mod Strings
+pub mod Verbatim

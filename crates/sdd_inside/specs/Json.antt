@@ -1,5 +1,5 @@
 -- JSON without spaces: strings, lists, and the members of objects.
-use Rattle.std.specs.Prelude.{ℕ, ◌≡◌, ◌==◌, ◌||◌, ◌+◌, ◌-◌, nat_lt, Bool, true, false, if◌then◌else◌, List, [], ◌∷◌, ◌++◌, flat_map, codes, refl}
+use Rattle.std.specs.Prelude.{ℕ, ◌≡◌, ◌==◌, ◌&&◌, ◌||◌, ◌+◌, ◌-◌, nat_le, nat_lt, not, Bool, true, false, if◌then◌else◌, List, [], ◌∷◌, ◌++◌, flat_map, codes, refl}
 use Rattle.std.specs.Fmt.{decimal}
 
 abbrev pub hex_digit : ℕ → ℕ
@@ -23,6 +23,10 @@ escaped_byte c =
 
 abbrev pub escaped : List ℕ → List ℕ
 escaped text = flat_map escaped_byte text
+
+-- whether a byte of a string stands for itself
+abbrev pub is_verbatim : ℕ → Bool
+is_verbatim c = (nat_le 32 c && not (c == 34)) && not (c == 92)
 
 -- a string
 abbrev pub quoted : List ℕ → List ℕ

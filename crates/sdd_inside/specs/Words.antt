@@ -1,9 +1,10 @@
 -- Names, sites, times and rows as JSON.
-use Rattle.std.specs.Prelude.{ℕ, ℤ, List, codes, map, Option, Some, None}
+use Rattle.std.specs.Prelude.{ℕ, ℤ, Bool, true, false, List, codes, map, Option, Some, None}
 use Rattle.std.specs.Fmt.{decimal, signed_decimal}
 use Rattle.sdd_script.specs.base.declared.change.Change.{Change}
 use Rattle.sdd_script.specs.base.declared.condition.Cond.{Cond}
 use Rattle.sdd_script.specs.All.{Catalogue, Event, Site, Txn, TxnNo, Value}
+use Rattle.sdd_script.specs.base.declared.value.Value.TheVariants.{Int, Text}
 use Rattle.sdd_script.specs.base.declared.number.ClassNo.{ClassNo}
 use Rattle.sdd_script.specs.base.declared.number.DmNo.{DmNo}
 use Rattle.sdd_script.specs.base.declared.number.FragNo.{FragNo}
@@ -46,6 +47,10 @@ event_json txns e = quoted (line_bytes (event_words txns e))
 -- a key as a string, since not all readers of JSON keep numbers of 64 bits
 abbrev pub key_json : Catalogue → List Txn → ℤ → List ℕ
 key_json cat txns k = quoted (signed_decimal k)
+
+abbrev pub is_number : Value → Bool
+is_number (Int number) = true
+is_number (Text text) = false
 
 -- a row as one string: its values as a workload spells them, with a space between two
 abbrev pub row_json : Catalogue → List Txn → List Value → List ℕ

@@ -1,10 +1,10 @@
 //! Strings as JSON spells them.
 ghost use Rattle.std.specs.Prelude.{◌≡◌, ◌++◌, ◌<◌, OnOk};
 ghost use Rattle.std.specs.Fmt.{decimal};
-ghost use Rattle.sdd_inside.specs.Json.{hex_digit, numbered, escaped_byte, escaped, quoted};
+ghost use Rattle.std.specs.List.{list_all};
+ghost use Rattle.sdd_inside.specs.Json.{hex_digit, is_verbatim, numbered, escaped_byte, escaped, quoted};
 
-use itoa::Buffer;
-use sdd_script::{NoMemory, put};
+use sdd_script::{NoMemory, put, put_count};
 
 fn hex_digit(n: u8) -> u8
     requires { n < 16 }
@@ -57,9 +57,8 @@ fn put_byte(out: &mut Vec<u8>, byte: &u8) -> Result<(), NoMemory>
     }
 }
 
-/// Puts a part of a string.
 #[tactic(auto, using(crate::proofs::Loops::written))]
-pub fn put_escaped(out: &mut Vec<u8>, part: &[u8]) -> Result<(), NoMemory>
+fn put_bytes(out: &mut Vec<u8>, part: &[u8]) -> Result<(), NoMemory>
     ensures { OnOk result (out.new.items ≡ out.old.items ++ escaped part.now) }
 {
     'part: for byte in part {
@@ -68,15 +67,58 @@ pub fn put_escaped(out: &mut Vec<u8>, part: &[u8]) -> Result<(), NoMemory>
     Ok(())
 }
 
+/// Whether a byte of a string stands for itself.
+#[inline(always)]
+fn is_verbatim(byte: u8) -> bool
+    ensures { result ≡ is_verbatim byte }
+{
+    32 <= byte && byte != b'"' && byte != b'\\'
+}
+
+/// Whether each byte stands for itself.
+#[inline(always)]
+fn are_verbatim(part: &[u8]) -> bool
+    ensures { result ≡ list_all is_verbatim part.now }
+{
+    part.iter().all(|byte| is_verbatim(*byte))
+}
+
+/// Puts a part of a string. Costs time linear in it; it is copied in one piece where each of its
+/// bytes stands for itself, as in a name.
+#[tactic(auto, using(crate::proofs::Verbatim::verbatim))]
+pub fn put_escaped(out: &mut Vec<u8>, part: &[u8]) -> Result<(), NoMemory>
+    ensures { OnOk result (out.new.items ≡ out.old.items ++ escaped part.now) }
+{
+    if are_verbatim(part) {
+        return put(out, part);
+    }
+    put_bytes(out, part)
+}
+
+/// Puts a number.
+#[tactic(auto, using(std::proofs::lemmas::Fmt::decimal_digit))]
+#[inline(always)]
+pub(crate) fn put_decimal(out: &mut Vec<u8>, number: u64) -> Result<(), NoMemory>
+    ensures { OnOk result (out.new.items ≡ out.old.items ++ decimal number) }
+{
+    if number < 10 {
+        out.push(b'0' + number as u8)?;
+        return Ok(());
+    }
+    put_count(out, number)
+}
+
 /// Puts a number, as a part of a string.
+#[tactic(auto, using(crate::proofs::Verbatim::number_verbatim))]
+#[inline(always)]
 pub fn put_escaped_count(out: &mut Vec<u8>, number: u64) -> Result<(), NoMemory>
     ensures { OnOk result (out.new.items ≡ out.old.items ++ escaped (decimal number)) }
 {
-    let mut buffer = Buffer::new();
-    put_escaped(out, buffer.format(number).as_bytes())
+    put_decimal(out, number)
 }
 
 /// Puts a string. Costs time linear in it.
+#[inline(always)]
 pub fn put_quoted(out: &mut Vec<u8>, string: &[u8]) -> Result<(), NoMemory>
     ensures { OnOk result (out.new.items ≡ out.old.items ++ quoted string.now) }
 {

@@ -7,6 +7,7 @@ ghost use Rattle.sdd_inside.specs.Messages.{ack_json};
 ghost use Rattle.sdd_inside.specs.Lines.{taken_json, found_members, round_member, handed_json, put_json, queue_json, pipe_moves, pipe_json, row_delta_json, place_members, event_members, link_members, module_members, site_members, changes_of, line, copy_json, module_counts, beginning};
 
 use crate::delta::{Delta, Found, Handed, PipeDelta, Put, QueueDelta, RowDelta, Taken};
+use crate::escape::put_decimal;
 use crate::events::put_event;
 use crate::messages::put_ack;
 use crate::to_json::{
@@ -14,13 +15,13 @@ use crate::to_json::{
     tell_first, tell_further, tell_list, tell_some, tell_triple, tell_two,
 };
 use sdd_report::CopyTable;
-use sdd_script::{Catalogue, Event, NoMemory, Txn, put, put_count};
+use sdd_script::{Catalogue, Event, NoMemory, Txn, put};
 
 fn put_taken(out: &mut Vec<u8>, packet: &Taken) -> Result<(), NoMemory>
     ensures { OnOk result (out.new.items ≡ out.old.items ++ taken_json packet.now) }
 {
     match packet {
-        Taken::Message(number) => put_count(out, u64::from(*number)),
+        Taken::Message(number) => put_decimal(out, u64::from(*number)),
         Taken::Ack(upto) => put_ack(out, *upto),
     }
 }

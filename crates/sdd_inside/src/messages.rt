@@ -5,14 +5,15 @@ ghost use Rattle.sdd_inside.specs.Messages.{of_kind, at_time, of_class, rows_of,
 ghost use Rattle.sdd_inside.specs.Words.{time_json, class_json, txn_json, attempt_json, cond_json, change_json};
 
 use crate::delta::InFlight;
-use crate::escape::put_quoted;
+use crate::escape::{put_decimal, put_quoted};
 use crate::to_json::{ToJson, put_also, put_name, put_opening, tell_also, tell_list};
 use crate::words::put_attempt;
 use itoa::Buffer;
-use sdd_script::{Catalogue, Changes, ClassNo, Conds, NoMemory, Ts, Txn, TxnNo, put, put_count};
+use sdd_script::{Catalogue, Changes, ClassNo, Conds, NoMemory, Ts, Txn, TxnNo, put};
 use sdd_wire::{Msg, UseCounts, UseRows, ValueList};
 
 #[tactic(auto, using(crate::proofs::Members::member_put))]
+#[inline(always)]
 fn put_kind(out: &mut Vec<u8>, kind: &[u8]) -> Result<(), NoMemory>
     ensures { OnOk result (out.new.items ≡ out.old.items ++ of_kind kind.now) }
 {
@@ -21,6 +22,7 @@ fn put_kind(out: &mut Vec<u8>, kind: &[u8]) -> Result<(), NoMemory>
 }
 
 /// Puts the kind and the time of a message without a class.
+#[inline(always)]
 fn put_time(out: &mut Vec<u8>, kind: &[u8], time: Ts) -> Result<(), NoMemory>
     ensures { OnOk result (out.new.items ≡ out.old.items ++ at_time kind.now time) }
 {
@@ -29,6 +31,7 @@ fn put_time(out: &mut Vec<u8>, kind: &[u8], time: Ts) -> Result<(), NoMemory>
 }
 
 /// Puts the kind, the class and the time of a message.
+#[inline(always)]
 fn put_class(
     out: &mut Vec<u8>,
     kind: &[u8],
@@ -46,6 +49,7 @@ fn put_class(
 
 /// Puts an attempt as a member.
 #[tactic(auto, using(crate::proofs::Members::member_put))]
+#[inline(always)]
 pub(crate) fn put_attempt_member(
     out: &mut Vec<u8>,
     txns: &[Txn],
@@ -290,6 +294,7 @@ impl ToJson for Msg {
 
 /// Puts an acknowledgement.
 #[tactic(auto, using(crate::proofs::Members::alone_put))]
+#[inline(always)]
 pub(crate) fn put_ack(out: &mut Vec<u8>, upto: u32) -> Result<(), NoMemory>
     ensures { OnOk result (out.new.items ≡ out.old.items ++ ack_json upto) }
 {
@@ -321,7 +326,7 @@ impl ToJson for InFlight {
     fn tell(&self, out: &mut Vec<u8>, catalogue: &Catalogue, txns: &[Txn]) -> Result<(), NoMemory> {
         match self {
             InFlight::Ack(upto) => put_ack(out, *upto),
-            InFlight::Again(number) => put_count(out, u64::from(*number)),
+            InFlight::Again(number) => put_decimal(out, u64::from(*number)),
             InFlight::First(number, message) => {
                 put_message(out, *number, message, catalogue, txns)
             }

@@ -36,6 +36,7 @@ fn stage_word(stage: Stage) -> &'static [u8]
 
 /// Puts a member that is one of a few words.
 #[tactic(auto, using(crate::proofs::Members::member_put))]
+#[inline(always)]
 fn put_phase(out: &mut Vec<u8>, word: &[u8]) -> Result<(), NoMemory>
     ensures { OnOk result (out.new.items ≡ out.old.items ++ also (codes "phase") (quoted word.now)) }
 {

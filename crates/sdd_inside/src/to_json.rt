@@ -4,7 +4,8 @@ ghost use Rattle.std.specs.Fmt.{decimal};
 ghost use Rattle.sdd_script.specs.All.{Catalogue as Names, Txn as Named};
 ghost use Rattle.sdd_inside.specs.Json.{separated, further, array, pair, triple, member, also, unless_empty, if_true, unless_zero};
 
-use sdd_script::{Catalogue, Listed, NoMemory, Txn, put, put_count};
+use crate::escape::put_decimal;
+use sdd_script::{Catalogue, Listed, NoMemory, Txn, put};
 
 /// What can stand in a line.
 pub(crate) trait ToJson: Sized {
@@ -17,6 +18,7 @@ pub(crate) trait ToJson: Sized {
 }
 
 /// Puts a comma and a value.
+#[inline(always)]
 pub(crate) fn tell_further<T: ToJson>(
     out: &mut Vec<u8>,
     item: &T,
@@ -88,6 +90,7 @@ pub(crate) fn tell_array<T: ToJson>(
 }
 
 /// Puts a list of two values.
+#[inline(always)]
 pub(crate) fn tell_pair<A: ToJson, B: ToJson>(
     out: &mut Vec<u8>,
     a: &A,
@@ -106,6 +109,7 @@ pub(crate) fn tell_pair<A: ToJson, B: ToJson>(
 }
 
 /// Puts the first two values of a longer list.
+#[inline(always)]
 pub(crate) fn tell_two<A: ToJson, B: ToJson>(
     out: &mut Vec<u8>,
     a: &A,
@@ -126,6 +130,7 @@ pub(crate) fn tell_two<A: ToJson, B: ToJson>(
 }
 
 /// Puts a list of three values.
+#[inline(always)]
 pub(crate) fn tell_triple<A: ToJson, B: ToJson, C: ToJson>(
     out: &mut Vec<u8>,
     a: &A,
@@ -146,6 +151,7 @@ pub(crate) fn tell_triple<A: ToJson, B: ToJson, C: ToJson>(
 }
 
 /// Puts the beginning of an object and the name of its first member.
+#[inline(always)]
 fn put_first(out: &mut Vec<u8>, name: &[u8]) -> Result<(), NoMemory>
     ensures { OnOk result (out.new.items ≡ out.old.items ++ 123 ∷ member name.now []) }
 {
@@ -156,6 +162,7 @@ fn put_first(out: &mut Vec<u8>, name: &[u8]) -> Result<(), NoMemory>
 
 /// Puts the beginning of an object and its first member.
 #[tactic(auto, using(crate::proofs::Members::first_put))]
+#[inline(always)]
 pub(crate) fn tell_first<T: ToJson>(
     out: &mut Vec<u8>,
     name: &[u8],
@@ -173,15 +180,17 @@ pub(crate) fn tell_first<T: ToJson>(
 
 /// Puts the beginning of an object and its first member, which is a number.
 #[tactic(auto, using(crate::proofs::Members::first_put))]
+#[inline(always)]
 pub(crate) fn put_opening(out: &mut Vec<u8>, name: &[u8], number: u64) -> Result<(), NoMemory>
     ensures { OnOk result (out.new.items ≡ out.old.items ++ 123 ∷ member name.now (decimal number)) }
 {
     put_first(out, name)?;
-    put_count(out, number)
+    put_decimal(out, number)
 }
 
 /// Puts the name of a further member.
 #[tactic(auto, unfolding(crate::specs::Json::also))]
+#[inline(always)]
 pub(crate) fn put_name(out: &mut Vec<u8>, name: &[u8]) -> Result<(), NoMemory>
     ensures { OnOk result (out.new.items ≡ out.old.items ++ also name.now []) }
 {
@@ -192,6 +201,7 @@ pub(crate) fn put_name(out: &mut Vec<u8>, name: &[u8]) -> Result<(), NoMemory>
 
 /// Puts a further member.
 #[tactic(auto, using(crate::proofs::Members::member_put))]
+#[inline(always)]
 pub(crate) fn tell_also<T: ToJson>(
     out: &mut Vec<u8>,
     name: &[u8],
@@ -209,6 +219,7 @@ pub(crate) fn tell_also<T: ToJson>(
 
 /// Puts a further member that is a list.
 #[tactic(auto, using(crate::proofs::Members::member_put))]
+#[inline(always)]
 pub(crate) fn tell_list<T: ToJson>(
     out: &mut Vec<u8>,
     name: &[u8],
@@ -226,6 +237,7 @@ pub(crate) fn tell_list<T: ToJson>(
 
 /// Puts a further member that is a list, and nothing where the list is empty.
 #[tactic(auto, using(crate::proofs::Members::none_put, crate::proofs::Members::some_put))]
+#[inline(always)]
 pub(crate) fn tell_some<T: ToJson>(
     out: &mut Vec<u8>,
     name: &[u8],
@@ -246,6 +258,7 @@ pub(crate) fn tell_some<T: ToJson>(
 
 /// Puts a further member where the answer is yes.
 #[tactic(auto, using(crate::proofs::Members::member_put))]
+#[inline(always)]
 pub(crate) fn put_if(out: &mut Vec<u8>, name: &[u8], holds: bool) -> Result<(), NoMemory>
     ensures { OnOk result (out.new.items ≡ out.old.items ++ if_true name.now holds) }
 {
@@ -259,14 +272,16 @@ pub(crate) fn put_if(out: &mut Vec<u8>, name: &[u8], holds: bool) -> Result<(), 
 
 /// Puts a further member that is a number.
 #[tactic(auto, using(crate::proofs::Members::member_put))]
+#[inline(always)]
 pub(crate) fn put_also(out: &mut Vec<u8>, name: &[u8], number: u64) -> Result<(), NoMemory>
     ensures { OnOk result (out.new.items ≡ out.old.items ++ also name.now (decimal number)) }
 {
     put_name(out, name)?;
-    put_count(out, number)
+    put_decimal(out, number)
 }
 
 /// Puts a further member that is a number, and nothing where it is 0.
+#[inline(always)]
 pub(crate) fn put_positive(out: &mut Vec<u8>, name: &[u8], number: u64) -> Result<(), NoMemory>
     ensures { OnOk result (out.new.items ≡ out.old.items ++ unless_zero name.now number) }
 {

@@ -1,20 +1,20 @@
 //! Numbers, names, times and rows in a line.
-ghost use Rattle.std.specs.Prelude.{◌≡◌, ◌++◌, ◌∷◌, [], map, IfOk, OnOk};
-ghost use Rattle.std.specs.Fmt.{decimal};
+ghost use Rattle.std.specs.Prelude.{◌≡◌, ◌++◌, ◌∷◌, [], map, true, OnOk};
+ghost use Rattle.std.specs.Fmt.{decimal, signed_decimal};
+ghost use Rattle.std.specs.List.{list_all};
 ghost use Rattle.sdd_script.specs.words.Values.{value_word};
 ghost use Rattle.sdd_script.specs.words.Words.{line_bytes};
-ghost use Rattle.sdd_inside.specs.Json.{escaped};
-ghost use Rattle.sdd_inside.specs.Words.{number_json, time_json, class_json, fragment_json, txn_json, attempt_json, site_json, dm_json, key_json, row_json, row_or_null_json, cond_json, change_json};
+ghost use Rattle.sdd_inside.specs.Json.{escaped, quoted};
+ghost use Rattle.sdd_inside.specs.Words.{is_number, number_json, time_json, class_json, fragment_json, txn_json, attempt_json, site_json, dm_json, key_json, row_json, row_or_null_json, cond_json, change_json};
 
-use crate::escape::{put_escaped, put_escaped_count, put_quoted};
+use crate::escape::{put_decimal, put_escaped, put_escaped_count, put_quoted};
 use crate::names::{class_word, fragment_name, txn_name};
 use crate::to_json::{ToJson, split_head, tell_pair, tell_triple};
 use itoa::Buffer;
 use sdd_script::{
     Catalogue, Change, ClassNo, Cond, DmNo, FragNo, NoMemory, Row, Site, Ts, Txn, TxnNo, Value,
-    put, put_count, put_value, put_values,
+    put, put_value, put_values,
 };
-use std::alloc::Global;
 
 impl ToJson for u32 {
     ghost json = { number_json };
@@ -25,7 +25,7 @@ impl ToJson for u32 {
         _catalogue: &Catalogue,
         _txns: &[Txn],
     ) -> Result<(), NoMemory> {
-        put_count(out, u64::from(*self))
+        put_decimal(out, u64::from(*self))
     }
 }
 
@@ -38,7 +38,7 @@ impl ToJson for Ts {
         _catalogue: &Catalogue,
         _txns: &[Txn],
     ) -> Result<(), NoMemory> {
-        put_count(out, self.0)
+        put_decimal(out, self.0)
     }
 }
 
@@ -82,6 +82,7 @@ impl ToJson for TxnNo {
 }
 
 /// Puts the word of a module: a letter and its number.
+#[inline(always)]
 fn put_module(out: &mut Vec<u8>, number: u8) -> Result<(), NoMemory>
     ensures { OnOk result (out.new.items ≡ out.old.items ++ (escaped (decimal number) ++ 34 ∷ [])) }
 {
@@ -143,6 +144,18 @@ pub(crate) fn put_attempt(
     put(out, b"\"")
 }
 
+/// Puts a key as a string, in which each byte stands for itself.
+#[tactic(auto, using(crate::proofs::Strings::key_put))]
+#[inline(always)]
+fn put_key(out: &mut Vec<u8>, key: &i64) -> Result<(), NoMemory>
+    ensures { OnOk result (out.new.items ≡ out.old.items ++ quoted (signed_decimal key.now)) }
+{
+    let mut buffer = Buffer::new();
+    put(out, b"\"")?;
+    put(out, buffer.format(*key).as_bytes())?;
+    put(out, b"\"")
+}
+
 impl ToJson for i64 {
     ghost json = { key_json };
 
@@ -152,29 +165,64 @@ impl ToJson for i64 {
         _catalogue: &Catalogue,
         _txns: &[Txn],
     ) -> Result<(), NoMemory> {
-        let mut buffer = Buffer::new();
-        put_quoted(out, buffer.format(*self).as_bytes())
+        put_key(out, self)
     }
 }
 
 #[tactic(auto, using(crate::proofs::Strings::values_put))]
-fn put_row_words(out: &mut Vec<u8>, first: &Value, rest: &[Value]) -> Result<(), NoMemory>
+fn put_some_words(out: &mut Vec<u8>, first: &Value, rest: &[Value]) -> Result<(), NoMemory>
     ensures { OnOk result (out.new.items ≡ out.old.items ++ line_bytes (map value_word (first.now ∷ rest.now))) }
 {
     put_value(out, first)?;
     put_values(out, rest)
 }
 
-/// The values of a row as a workload spells them.
-fn row_words(alloc: Global, values: &[Value]) -> Result<Vec<u8>, NoMemory>
-    ensures { IfOk result (λ words. words.items ≡ line_bytes (map value_word values.now)) }
+/// Puts the values of a row as a workload spells them.
+fn put_row_words(out: &mut Vec<u8>, values: &[Value]) -> Result<(), NoMemory>
+    ensures { OnOk result (out.new.items ≡ out.old.items ++ line_bytes (map value_word values.now)) }
 {
-    let mut words = Vec::new(alloc);
     match split_head(values) {
-        Some((first, rest)) => put_row_words(&mut words, first, rest)?,
-        None => {}
+        Some((first, rest)) => put_some_words(out, first, rest),
+        None => Ok(()),
     }
-    Ok(words)
+}
+
+fn is_number(value: &Value) -> bool
+    ensures { result ≡ is_number value.now }
+{
+    match value {
+        Value::Int(_) => true,
+        Value::Text(_) => false,
+    }
+}
+
+fn are_numbers(values: &[Value]) -> bool
+    ensures { result ≡ list_all is_number values.now }
+{
+    values.iter().all(|value| is_number(value))
+}
+
+/// Puts a row of numbers as a string, in which each byte stands for itself.
+#[tactic(auto, using(crate::proofs::Strings::numbers_put))]
+fn put_numbers(out: &mut Vec<u8>, values: &[Value]) -> Result<(), NoMemory>
+    requires { list_all is_number values.now ≡ true }
+    ensures { OnOk result (out.new.items ≡ out.old.items ++ quoted (line_bytes (map value_word values.now))) }
+{
+    put(out, b"\"")?;
+    put_row_words(out, values)?;
+    put(out, b"\"")
+}
+
+/// Puts a row as a string.
+fn put_row(out: &mut Vec<u8>, values: &[Value]) -> Result<(), NoMemory>
+    ensures { OnOk result (out.new.items ≡ out.old.items ++ quoted (line_bytes (map value_word values.now))) }
+{
+    if are_numbers(values) {
+        return put_numbers(out, values);
+    }
+    let mut words = Vec::new(*out.allocator());
+    put_row_words(&mut words, values)?;
+    put_quoted(out, words.as_slice())
 }
 
 impl ToJson for Row {
@@ -186,8 +234,7 @@ impl ToJson for Row {
         _catalogue: &Catalogue,
         _txns: &[Txn],
     ) -> Result<(), NoMemory> {
-        let words = row_words(*out.allocator(), self.as_slice())?;
-        put_quoted(out, words.as_slice())
+        put_row(out, self.as_slice())
     }
 }
 

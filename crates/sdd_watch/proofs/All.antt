@@ -33,6 +33,8 @@ pub use Rattle.sdd_obligations.proofs.invariants.Bools.{not_both}
 pub use Rattle.sdd_obligations.proofs.invariants.InOrder.{allowed_hand, handed_of_sent, in_order}
 pub use Rattle.sdd_obligations.proofs.invariants.InPipe.{pipe_is}
 pub use Rattle.sdd_obligations.proofs.invariants.Lists.{in_either, in_range, in_right}
+pub use Rattle.sdd_obligations.proofs.invariants.Made.{local_grows}
+pub use Rattle.sdd_obligations.proofs.invariants.Once.{processed_grows}
 pub use Rattle.sdd_obligations.proofs.invariants.Processed.{and_false}
 pub use Rattle.sdd_obligations.proofs.invariants.Sent.{sent_is}
 pub use Rattle.sdd_obligations.proofs.invariants.Sites.{site_is, site_self}
@@ -58,7 +60,7 @@ pub use Rattle.sdd_obligations.proofs.net.SiteLists.{all_links_more, links_no, l
 pub use Rattle.sdd_obligations.proofs.net.Sound.{sound}
 pub use Rattle.sdd_obligations.proofs.serial_orders.Reading.{is_eq_nat, same_pair}
 pub use Rattle.sdd_obligations.proofs.tm.Lists.{of_map as in_mapped}
-pub use Rattle.sdd_obligations.specs.All.{Ack, Act, Apply, Attempt, Call, Catalogue, Change, Class, ClassNo, ClassState, ClassView, Commit, Cond, D, Deliver, Did, DmNo, Does, Done, Down, Entry, Event, FitsStart, FragNo, Fragment, Hand, History, Input, IsClassHere, IsEraOf, IsGood, IsLawful, IsLinkOf, IsPermitted, IsPossible, IsServedClass, IsSiteOf, IsSoundCatalogue, IsTable, IsTheLog, IsWhole, Kept, Link, Log, Lose, MAX_DMS, MAX_TMS, Mark, Message, Msg, Notes, Null, Packet, Pipe, Puts, Queued, Read, Rec, Records, Redeclare, Redeclared, Redeclares, Repeat, Represent, Resend, Rests, Round, Sends, Setting, Settle, Site, Start, Submit, Submitted, T, TakesRounds, Tick, Ticked, TmNo, Ts, Txn, TxnNo, U, Up, Write, after_mark, all_links, all_of, are_linked, arrives, asks, base_of, bound_of, calls_of, class_at, class_for, class_in, class_no, clock, dated, deliver, delivered, dm_no, does_at, given_by, goes_through, greatest_bound, handed, hands_from, has_copy, head, head_of, history, holds, holds_back, home, is_down, is_empty, is_here, is_link, is_met, is_site, left, link, link_of, links, local_of, lose, mark_due, mark_from, mark_of, marks, newly_delivered, next, next_at, next_in, next_mark, note_if, nth_era, numbers_to, or_zero, packet_as, packet_at, pipe, puts, puts_to, quiet, redeclares, rel_no, repeat, resend, round, runs, same_site, sends_of_act, sent, setting_of, site_due, sites, spelled, takes_part as takes_at, time_at, time_of, tm_no, tried, turned, txn_at, txn_no, view_of, waits, with_event, with_packet, with_submit, without_packet}
+pub use Rattle.sdd_obligations.specs.All.{Ack, Act, Apply, Attempt, Call, Catalogue, Change, Class, ClassNo, ClassState, ClassView, Commit, Cond, D, Deliver, Did, DmNo, Does, Done, Down, Entry, Event, FitsStart, FragNo, Fragment, Hand, History, Input, IsClassHere, IsEraOf, IsGood, IsLawful, IsLinkOf, IsPermitted, IsPossible, IsServedClass, IsSiteOf, IsSoundCatalogue, IsTable, IsTheLog, IsWhole, Kept, Link, Log, Lose, MAX_DMS, MAX_TMS, Mark, Message, Msg, Notes, Null, Packet, Pipe, Puts, Queued, Read, Rec, Records, Redeclare, Redeclared, Redeclares, Repeat, Represent, Resend, Rests, Round, Sends, Setting, Settle, Site, Start, Submit, Submitted, T, TakesRounds, Tick, Ticked, TmNo, Ts, Txn, TxnNo, U, Up, View, Write, after_mark, all_links, all_of, are_linked, arrives, asks, base_of, bound_of, calls_of, class_at, class_for, class_in, class_no, clock, dated, deliver, delivered, dm_no, does_at, given_by, goes_through, greatest_bound, handed, hands_from, has_copy, head, head_of, history, holds, holds_back, home, is_down, is_empty, is_here, is_link, is_met, is_site, left, link, link_of, links, local_of, lose, mark_due, mark_from, mark_of, marks, newly_delivered, next, next_at, next_in, next_mark, note_if, nth_era, numbers_to, or_zero, packet_as, packet_at, pipe, puts, puts_to, quiet, redeclares, rel_no, repeat, resend, round, runs, same_site, sends_of_act, sent, setting_of, site_due, sites, spelled, takes_part as takes_at, time_at, time_of, tm_no, tried, turned, txn_at, txn_no, view_of, waits, with_event, with_packet, with_submit, without_packet}
 pub use Rattle.sdd_obligations.specs.attempt.Lines.{Line, awaited_by, lacked_by, tries_of_first}
 pub use Rattle.sdd_obligations.specs.attempt.Queues.{queue as queue_in_log, txn_of}
 pub use Rattle.sdd_obligations.specs.attempt.Phases.{awaited_in}
@@ -126,7 +128,7 @@ pub use Rattle.sdd_watch.specs.Happens.{applied_by, applied_in, arrived_by, arri
 pub use Rattle.sdd_watch.specs.Keeping.{IsLineInOrder, active_of, head_in, question_by, questions_in}
 pub use Rattle.sdd_watch.specs.Looking.{ArePipesSeen, AreSeen, advanced, all_waiting, messages_in, numbers_for, queue_in, queue_of, says, says_one, seen_with}
 pub use Rattle.sdd_watch.specs.Moments.{all_pipes, at_event, came, link_moment, moment_of, number_through, passed_to, pipe_moment, pipes_at_module, queue_moment, queues_at, queues_of, source, time_passed}
-pub use Rattle.sdd_watch.specs.Reaching.{is_between, is_touched, may_act, may_change_from, reach_of, reach_of_delivery}
+pub use Rattle.sdd_watch.specs.Reaching.{given_to, is_between, is_touched, may_act, may_change_from, reach_of, reach_of_delivery}
 pub use Rattle.sdd_watch.specs.States.{actives, head_by, phase_by, questions_to, report_head, reported_active, reported_attempt, reported_dm, reported_tm, says_applied, state_of, unapplied_of}
 pub use Rattle.sdd_watch.specs.ScheduleSoFar.{IsReported, IsTextOf, Tells, TellsBetween, TellsRound, TellsSettled}
 pub use Rattle.sdd_watch.specs.Text.{IsInsideOf, change, inside_text, line_of}

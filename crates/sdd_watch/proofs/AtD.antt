@@ -1,5 +1,5 @@
 -- What a data module keeps tells how it stands.
-use Rattle.sdd_watch.proofs.All.{Bool, Change, ClassNo, ClassView, Cond, DmNo, Head, Kept, List, Msg, None, Option, Read, Setting, Shows, Some, State, Waits, Write, ap, arith, class_no, class_view, false, filter, filter_map, filter_same, head, head_at, head_by, head_in, head_shown, holder_at, holders_in, holders_of, holds_back, holds_in, if◌then◌else◌, is_met, is_met_in, length, map, met_is, not, pipe, range_with_len, refl, report_head, reported_dm, suc, true, unmet, unmet_in, unmet_of, view_of, waits, waits_shown, zero, ℕ, ◌&&◌, ◌+◌, ◌<◌, ◌∙◌, ◌∷◌, ◌≡◌, ◌≤◌}
+use Rattle.sdd_watch.proofs.All.{Bool, Change, ClassNo, ClassView, Cond, DmNo, Head, Kept, List, Msg, None, Option, Read, Setting, Shows, Some, State, View, Waits, Write, [], ap, arith, class_no, class_view, false, filter, filter_map, filter_same, head, head_at, head_by, head_in, head_of, head_shown, holder_at, holders_in, holders_of, holds_back, holds_in, if◌then◌else◌, is_met, is_met_in, length, map, met_is, not, pipe, pipe_at, range_with_len, refl, report_head, reported_dm, suc, sym, true, unmet, unmet_in, unmet_of, view_of, waits, waits_shown, zero, ℕ, ◌&&◌, ◌+◌, ◌<◌, ◌∙◌, ◌∷◌, ◌≡◌, ◌≤◌}
 use Rattle.sdd_obligations.specs.dm.Represents.{Represents}
 use Rattle.sdd_obligations.specs.site_module.SiteLog.{Log}
 use Rattle.sdd_inside.specs.declared.standing.Head.TheVariants.{Held}
@@ -54,6 +54,22 @@ head_is_reported st s log c conds readers shows l e f =
     (waits_shown s st log c.0 shows l)
     ∙ ap (λ m. head_in c (if waits c.0 log then unmet_of st.pipes m else None) (holders_of st.pipes st.waits c.0 m)) (head_shown s st log c.0 shows l)
     ∙ head_is s st log c.0 (waits c.0 log) (head (pipe c.0 log)) shows
+
+-- where each message in a pipe is processed there is none
+
+no_head : (v : View) (c : ℕ) (w : Bool) → head_by v c w None ≡ None
+no_head v c true = refl
+no_head v c false = refl
+
+none_first : (ms : List Msg) → length ms ≡ 0 → head_of ms ≡ None
+none_first [] e = refl
+none_first (m ∷ ms) e = absurd (omega (arith, e))
+
+pub idle_is_reported : (st : State) (s : Setting) (log : Log) (c : ℕ) → Shows s st log → c ≤ length s.catalogue.classes
+    → length (pipe_at st.pipes c).unprocessed ≡ 0 → None ≡ report_head (view_of s log) (class_view s log c)
+idle_is_reported st s log c shows l e =
+    let none : head (pipe c log) ≡ None = sym (head_shown s st log c shows l) ∙ none_first (pipe_at st.pipes c).unprocessed e in
+    sym (ap (head_by (view_of s log) c (waits c log)) none ∙ no_head (view_of s log) c (waits c log))
 
 -- all of it
 pub state_is_reported : (k : Kept State) (s : Setting) (log : Log) (d : DmNo) (down : Bool) (heads : List Head) (n : ℕ) → Represents k s log

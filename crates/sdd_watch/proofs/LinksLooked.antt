@@ -1,7 +1,7 @@
 -- A look at each link, one after the other.
-use Rattle.sdd_watch.proofs.All.{All-at, AreSeen, Bool, Event, Found, Input, IsLinkOf, IsOver, IsSiteOf, IsThere, LinkSeen, List, Log, None, OnLinks, Reach, Site, Some, WatchedLink, World, [], all_links, all_sites, ap, append-nil, arith, arrived_on, cond, cons_option, eqb-true, false, filter, filter_map, flat_map, found_by, get_or, in_left, in_right, is_changed_link, is_still_link, is_touched, last_event, length, length-map, link_after, link_before, link_of_links, links_from, map, may_change_from, not, reach_of, refl, seen_between, sent, site_there, slice_get, slice_set, suc, subst, sym, take, take_all, true, watched_link, watched_links, zero, ℕ, ◌++◌, ◌+◌, ◌<◌, ◌==◌, ◌||◌, ◌∙◌, ◌∷◌, ◌≡◌, ◌≤◌}
+use Rattle.sdd_watch.proofs.All.{All-at, AreSeen, Bool, Event, Found, Input, IsBetween, IsGood, IsLinkOf, IsOver, IsSiteOf, IsThere, LinkSeen, List, Log, None, OnLinks, Reach, Site, Some, WatchedLink, World, [], all_links, all_sites, and_parts, ap, are_linked, append-nil, arith, arrived_on, cond, cons_option, eqb-true, false, filter, filter_map, flat_map, found_by, get_or, in_left, in_right, is_changed_link, is_site, is_still_link, is_touched, last_event, length, length-map, link_after, link_before, link_of_links, links_from, map, may_act, may_change_from, not, reach_of, refl, seen_between, sent, site_there, slice_get, slice_set, suc, subst, sym, take, take_all, true, watched_link, watched_links, zero, ℕ, ◌&&◌, ◌++◌, ◌+◌, ◌<◌, ◌==◌, ◌||◌, ◌∙◌, ◌∷◌, ◌≡◌, ◌≤◌}
 use Rattle.sdd_watch.proofs.Happening.{sites_there}
-use Rattle.sdd_watch.proofs.LinksKept.{IsStill, link_stays, site_still}
+use Rattle.sdd_watch.proofs.LinksKept.{IsStill, link_stays, nothing_put, site_still}
 use Rattle.sdd_watch.proofs.Reached.{neither, reach_after}
 use Rattle.sdd_watch.proofs.Visited.{PlaceAt, all_changed, changed_to, filtered_join, filtered_one, group_more, picked_join, place_at}
 
@@ -19,16 +19,33 @@ as_many n m e = eqb-true n m (elim (n == m) as (λ b. not b ≡ false → b ≡ 
   | false ↦ λ p. sym p
 ] e)
 
+-- by a site that doesn't act nothing is put
+as_many_put : (g : Input) (old new : Log) (l : Site × Site) → IsGood g → IsBetween g old new → IsSiteOf g l.0
+    → (may_act (reach_after g old new new) l.0 && not (length (sent l.0 l.1 new) == length (sent l.0 l.1 old))) ≡ false
+    → length (sent l.0 l.1 new) ≡ length (sent l.0 l.1 old)
+as_many_put g old new l good b here e =
+    elim (may_act (reach_after g old new new) l.0) as
+    (λ c. may_act (reach_after g old new new) l.0 ≡ c → (c && not (length (sent l.0 l.1 new) == length (sent l.0 l.1 old))) ≡ false
+    → length (sent l.0 l.1 new) ≡ length (sent l.0 l.1 old)) [
+      | true ↦ λ acts h. as_many (length (sent l.0 l.1 new)) (length (sent l.0 l.1 old)) h
+      | false ↦ λ aside h. ap length (nothing_put g old new good b l.0 l.1 here aside)
+    ] refl e
+
 -- a link that is passed over is still
 pub link_passed : (g : Input) (old new : Log) (w : World) (event : Event) (found : Found) (r : Reach) (l : Site × Site) (link : WatchedLink) (b : Bool)
-    → IsOver g old new w event found → r ≡ reach_of g new event found → link ≡ watched_link old l
-    → b ≡ (is_touched r link.from link.to || not (length (sent link.from link.to new) == link.sent)) → b ≡ false → IsStill old new l
-link_passed g old new w event found r l link b over is stood test e =
+    → IsOver g old new w event found → r ≡ reach_of g new event found → link ≡ watched_link old l → IsLinkOf g l.0 l.1
+    → b ≡ (is_touched r link.from link.to || may_act r link.from && not (length (sent link.from link.to new) == link.sent)) → b ≡ false
+    → IsStill old new l
+link_passed g old new w event found r l link b over is stood linked test e =
     let at : r ≡ reach_after g old new new = reach_reported g old new event found r over.event_is over.found_is is in
-    let none = neither (is_touched (reach_after g old new new) l.0 l.1) (not (length (sent l.0 l.1 new) == length (sent l.0 l.1 old)))
-    ((λ i. is_touched (sym at i) (sym stood i).from (sym stood i).to || not (length (sent (sym stood i).from (sym stood i).to new) == (sym stood i).sent))
+    let none = neither (is_touched (reach_after g old new new) l.0 l.1)
+    (may_act (reach_after g old new new) l.0 && not (length (sent l.0 l.1 new) == length (sent l.0 l.1 old)))
+    ((λ i. is_touched (sym at i) (sym stood i).from (sym stood i).to
+    || may_act (sym at i) (sym stood i).from && not (length (sent (sym stood i).from (sym stood i).to new) == (sym stood i).sent))
     ∙ sym test ∙ e) in
-    link_stays g old new over.calm.parts.good over.between l.0 l.1 none.0 (as_many (length (sent l.0 l.1 new)) (length (sent l.0 l.1 old)) none.1)
+    let here : IsSiteOf g l.0 =
+    (and_parts (is_site g.catalogue.tms g.catalogue.dms l.0) (is_site g.catalogue.tms g.catalogue.dms l.1 && are_linked l.0 l.1) linked).0 in
+    link_stays g old new over.calm.parts.good over.between l.0 l.1 none.0 (as_many_put g old new l over.calm.parts.good over.between here none.1)
 
 pub link_passed_kept : (old new : Log) (l : Site × Site) (link : WatchedLink) → link ≡ watched_link old l → IsStill old new l → link ≡ watched_link new l
 link_passed_kept old new l link stood s = stood ∙ sym s.kept

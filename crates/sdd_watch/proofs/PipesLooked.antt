@@ -1,6 +1,7 @@
 -- A look at a pipe, at what is read of it in the world.
-use Rattle.sdd_watch.proofs.All.{AllRepresent, Arrived, Bool, D, Digest, DmNo, Input, IsBetween, IsDigest, IsGood, IsSiteOf, Kept, List, LivesD, Log, Msg, None, Option, Pipe, PipeMoment, Setting, Sites, Some, State, Ts, WatchedPipe, [], and_parts, ap, arith, arrived, came, class_no, dm_no, drop, eqb-true, false, greatest, head_of, is_changed_pipe, is_empty, lawful_permitted, length, local_of, map, not, numbers_for, or_zero, passed_to, passed_with, pipe, pipe_after, pipe_at, pipe_before, refl, setting_of, source, subst, sym, time_at, time_of, time_passed, true, watched_pipe, ℕ, ◌&&◌, ◌+◌, ◌-◌, ◌==◌, ◌∙◌, ◌∷◌, ◌≡◌, ◌≤◌}
+use Rattle.sdd_watch.proofs.All.{AllRepresent, Arrived, Bool, D, Digest, DmNo, Input, IsBetween, IsDigest, IsGood, IsSiteOf, Kept, List, LivesD, Log, Msg, None, Option, Pipe, PipeMoment, Setting, Site, Sites, Some, State, Ts, WatchedPipe, [], and_parts, ap, arith, arrived, came, class_no, dm_no, drop, eqb-true, false, filter_map, find, greatest, head_of, is_changed_pipe, is_empty, is_on, lawful_permitted, length, local_grows, local_of, map, messages_in, not, number_for, numbers_for, or_zero, passed_to, passed_with, pipe, pipe_after, pipe_at, pipe_before, processed_grows, refl, setting_of, source, subst, sym, time_at, time_of, time_passed, true, watched_pipe, ℕ, ◌&&◌, ◌++◌, ◌+◌, ◌-◌, ◌==◌, ◌∙◌, ◌∷◌, ◌≡◌, ◌≤◌}
 use Rattle.sdd_watch.proofs.Came.{all_came, came_is, more_came, processed_is}
+use Rattle.sdd_watch.proofs.Between.{joined_more}
 use Rattle.sdd_watch.proofs.Sourced.{source_there}
 use Rattle.sdd_run.specs.world.Modules.{Represent}
 use Rattle.sdd_obligations.specs.pipe.Digest as digest
@@ -135,3 +136,38 @@ pipe_quiet g old new d c w numbers unprocessed quiet here good b site few is all
       pipe_kept g old new d c w w unprocessed passed is read (ap (with_unprocessed w) same),
       ap (λ (m : PipeMoment). not (is_empty m.came && m.processed == 0)) (sym seen) ∙ (λ i. not (is_empty (empty i) && none i == 0)),
     )
+
+-- a pipe whose messages are all processed, and on whose link nothing was handed over, is passed over too
+
+processed_rises : (g : Input) (old new : Log) (d c : ℕ) → IsBetween g old new
+    → length (pipe c (local_of g (D (dm_no d)) old)).processed ≤ length (pipe c (local_of g (D (dm_no d)) new)).processed
+processed_rises g old new d c b =
+    let at : Site = D (dm_no d) in
+    let own = local_grows g at (b.more ++ b.mark ∷ []) old in
+    let is : local_of g at new ≡ own.0 ++ local_of g at old = ap (local_of g at) (b.parts ∙ joined_more b.more b.mark old) ∙ own.1 in
+    subst (λ l. length (pipe c (local_of g at old)).processed ≤ length (pipe c l).processed) (sym is) (processed_grows c own.0 (local_of g at old))
+
+idle_stays : (g : Input) (old new : Log) (d c : ℕ) → IsGood g → IsBetween g old new → c ≤ length g.catalogue.classes
+    → length (pipe c (local_of g (D (dm_no d)) old)).unprocessed ≡ 0 → drop (length (came g d c old)) (came g d c new) ≡ []
+    → 0 ≡ length (pipe c (local_of g (D (dm_no d)) new)).unprocessed
+idle_stays g old new d c good b few idle none =
+    let a = all_came g old d c (lawful_permitted g old good.once b.before.lawful) (omega (arith, few)) in
+    let z = all_came g new d c (lawful_permitted g new good.once b.after.lawful) (omega (arith, few)) in
+    let m = more_came g old new d c good b in
+    let n = ap length none in
+    let r = processed_rises g old new d c b in
+    omega (arith, a, z, m, n, r, idle)
+
+pub pipe_idle : (g : Input) (old new : Log) (d c : ℕ) (w : WatchedPipe) (idle : Bool) (here : List Arrived) → IsGood g → IsBetween g old new
+    → IsSiteOf g (D (dm_no d)) → c ≤ length g.catalogue.classes → w ≡ watched_pipe g old (d, c) → here ≡ arrived g old new
+    → idle ≡ (w.unprocessed == 0 && is_empty (messages_in (find (is_on w.source (D w.dm)) here))) → idle ≡ true
+    → (w ≡ watched_pipe g new (d, c)) × (is_changed_pipe g old new (d, c) ≡ false)
+pipe_idle g old new d c w idle here good b site few is all test is_idle =
+    let both = and_parts (w.unprocessed == 0) (is_empty (messages_in (find (is_on w.source (D w.dm)) here))) (sym test ∙ is_idle) in
+    let done : w.unprocessed ≡ 0 = eqb-true w.unprocessed 0 both.0 in
+    let numbers : List ℕ = numbers_for w.source (D w.dm) w.class.0 here in
+    let empty : numbers ≡ [] =
+    ap (filter_map (number_for w.class.0)) (nothing_in (messages_in (find (is_on w.source (D w.dm)) here)) both.1) in
+    let came_are = numbers_came g old new d c w numbers here good b site is all refl in
+    let left = idle_stays g old new d c good b few (ap (λ (x : WatchedPipe). x.unprocessed) (sym is) ∙ done) (sym came_are ∙ empty) in
+    pipe_quiet g old new d c w numbers 0 true here good b site few is all left refl (sym (λ i. is_empty (empty i) && done i == 0)) refl

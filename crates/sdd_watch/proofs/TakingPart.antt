@@ -1,5 +1,5 @@
 -- Which sites take part in an event.
-use Rattle.sdd_watch.proofs.All.{Arrived, Bool, DmNo, Down, Event, Found, Input, List, Log, Redeclare, Site, Submit, Tick, TmNo, TxnNo, Up, [], all_links, ap, append-nil, arrived, arrived_on, concerns, cons_option, false, filter, filter_map, found_by, handed, if◌then◌else◌, is_reached, last_event, list_any, not, refl, same_site, sym, takes_part, true, ℕ, ◌&&◌, ◌++◌, ◌==◌, ◌||◌, ◌∙◌, ◌∷◌, ◌≡◌}
+use Rattle.sdd_watch.proofs.All.{Arrived, Bool, DmNo, Down, Event, Found, Input, List, Log, Redeclare, Site, Submit, Tick, TmNo, TxnNo, U, Up, [], all_links, ap, append-nil, arrived, arrived_on, concerns, cons_option, false, filter, filter_map, found_by, given_to, handed, if◌then◌else◌, is_reached, last_event, list_any, not, refl, same_site, sym, takes_part, true, ℕ, ◌&&◌, ◌++◌, ◌==◌, ◌||◌, ◌∙◌, ◌∷◌, ◌≡◌}
 use Rattle.sdd_watch.proofs.Came.{arrived_if, still}
 
 abbrev is_to : Site → Arrived → Bool
@@ -44,6 +44,11 @@ of_none g log (Down d) found at a b c k r = absurd (c d refl)
 of_none g log (Up d) found at a b c k r = absurd (k d refl)
 of_none g log Redeclare found at a b c d r = absurd (r refl)
 of_none g log _ found at a b c d r = refl
+
+-- by no other event a transaction is given
+pub given_otherwise : (g : Input) (log : Log) (e : Event) → ((n : TxnNo) → e ≡ Submit n → ⊥) → U ≡ given_to g log e
+given_otherwise g log (Submit n) other = absurd (other n refl)
+given_otherwise g log _ other = refl
 
 -- a site more
 

@@ -2,7 +2,7 @@
 -- and those from the site that acts.
 -- For the contracts of the code: not needed to read `IsInsideOf`.
 use Rattle.std.specs.Prelude.{Bool, false, true, ◌&&◌, ◌||◌}
-use Rattle.sdd_obligations.specs.All.{D, Deliver, Event, Input, Log, Lose, Repeat, Resend, Site, Submit, Up, nth_era, redeclares, same_site, txn_at}
+use Rattle.sdd_obligations.specs.All.{D, Deliver, Event, Input, Log, Lose, Repeat, Resend, Site, Submit, U, Up, nth_era, redeclares, same_site, txn_at}
 use Rattle.sdd_obligations.specs.logs.Due.{home_of}
 use Rattle.sdd_inside.specs.declared.delta.Found.{Found}
 use Rattle.sdd_inside.specs.declared.delta.Found.TheVariants as founds
@@ -23,6 +23,11 @@ reach_of g log (Repeat a b k) found = Along a b
 reach_of g log (Resend a b) found = Along a b
 reach_of g log (Up d) found = Around (D d)
 reach_of g log _ found = Nowhere
+
+-- the site to which an event gives a transaction, and U where it gives none
+abbrev pub given_to : Input → Log → Event → Site
+given_to g log (Submit n) = home_of (nth_era g (redeclares log)).catalogue (txn_at g n.0)
+given_to g log _ = U
 
 -- whether a site may act
 abbrev pub may_act : Reach → Site → Bool

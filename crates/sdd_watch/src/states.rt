@@ -1,10 +1,12 @@
 //! How sites stand between two events.
-ghost use Rattle.std.specs.Prelude.{◌≡◌, ◌≤◌, ◌/◌, ◌++◌, ◌∷◌, [], filter_map, length, map, not, option_map, IfOk, OnOk, IsTrue, Some};
+ghost use Rattle.std.specs.Prelude.{◌≡◌, ◌==◌, ◌≤◌, ◌/◌, ◌++◌, ◌∷◌, [], filter_map, length, map, not, option_map, IfOk, OnOk, IsTrue, Some};
 ghost use Rattle.std.specs.List.{All, flat_map};
-ghost use Rattle.sdd_obligations.specs.All.{ClassState, Input, IsSiteOf, Log, Setting, T, dm_no, view_of};
+ghost use Rattle.sdd_obligations.specs.All.{ClassState, Input, IsSiteOf, Log, Setting, T, U, dm_no, local_of, setting_of, view_of};
+ghost use Rattle.sdd_inside.specs.declared.standing.Stage.TheVariants as stages;
 ghost use Rattle.sdd_obligations.specs.attempt.Lines.{awaited_by, lacked_by};
 ghost use Rattle.sdd_obligations.specs.dm.Represents as data_represents;
 ghost use Rattle.sdd_obligations.specs.dm.Views as data_views;
+ghost use Rattle.sdd_obligations.specs.pipe.Pipes.{pipe_at};
 ghost use Rattle.sdd_obligations.specs.site_module.SiteLog as site;
 ghost use Rattle.sdd_obligations.specs.tm.Represents as tm_represents;
 ghost use Rattle.sdd_obligations.specs.umod.Represents as u_represents;
@@ -191,7 +193,7 @@ fn stage_at(u_module: &UModule<'_>) -> Stage
 }
 
 /// From which sites an answer is missing, where these data modules haven't said that they applied
-/// what was committed last.
+/// what was committed last, as far as U waits for that.
 fn missing_sites(
     alloc: Global,
     u_module: &UModule<'_>,
@@ -199,7 +201,8 @@ fn missing_sites(
     unapplied: &[DmNo],
 ) -> Result<Vec<Site>, NoMemory>
     ensures { IfOk result (λ sites. (s : Setting) (log : site.Log) → u_represents.Represents u_module.now s log
-        → unapplied.now ≡ unapplied_last s log → sites.items ≡ lacks_in s log stage) }
+        → (stage ≡ stages.Writing → unapplied.now ≡ unapplied_last s log)
+        → sites.items ≡ lacks_in s log stage) }
 {
     match stage {
         Stage::Reading => data_sites(alloc, missing_dms(u_module.line())),
@@ -209,12 +212,17 @@ fn missing_sites(
     }
 }
 
-fn u_state(alloc: Global, u_module: &UModule<'_>, unapplied: &[DmNo]) -> Result<UState, NoMemory>
+fn u_state(
+    alloc: Global,
+    u_module: &UModule<'_>,
+    stage: Stage,
+    unapplied: &[DmNo],
+) -> Result<UState, NoMemory>
     requires { (s : Setting) × (log : site.Log) × u_represents.Represents u_module.now s log }
     ensures { IfOk result (λ state. (s : Setting) (log : site.Log) → u_represents.Represents u_module.now s log
-        → unapplied.now ≡ unapplied_last s log → state ≡ reported_u s log) }
+        → stage ≡ stage_at s log → (stage ≡ stages.Writing → unapplied.now ≡ unapplied_last s log)
+        → state ≡ reported_u s log) }
 {
-    let stage = stage_at(u_module);
     let lacks = missing_sites(alloc, u_module, stage, unapplied)?;
     let mut active = Vec::new(alloc);
     add_active(alloc, u_module.line(), &mut active)?;
@@ -240,12 +248,22 @@ fn head_in(class: ClassNo, conds: Option<Conds>, readers: Option<ClassNos>) -> O
     }
 }
 
+/// Whether each message in the pipe of a class is processed.
+fn is_idle(dm_module: &DataModule, class: ClassNo) -> bool
+    ensures { result ≡ (length (pipe_at dm_module.now.value.pipes class.0).unprocessed == 0) }
+{
+    dm_module.count_unprocessed(class) == 0
+}
+
 /// The head of the pipe of a class, where it can't be processed.
 fn report_head(dm_module: &DataModule, class: ClassNo) -> Result<Option<Head>, NoMemory>
     ensures { IfOk result (λ head. (s : Setting) (log : site.Log) → data_represents.Represents dm_module.now s log
         → class.0 ≤ length s.catalogue.classes
         → head ≡ report_head (view_of s log) (data_views.class_view s log class.0)) }
 {
+    if is_idle(dm_module, class) {
+        return Ok(None);
+    }
     let conds = dm_module.unmet_conds(class)?;
     let readers = dm_module.holders(class)?;
     Ok(head_in(class, conds, readers))
@@ -300,6 +318,36 @@ fn missing_applies(alloc: Global, world: &World<'_>, dones: &Dones) -> Result<Ve
     Ok(missing)
 }
 
+/// The same where U waits for that, and none elsewhere.
+fn awaited_applies(
+    alloc: Global,
+    world: &World<'_>,
+    dones: &Dones,
+    stage: Stage,
+) -> Result<Vec<DmNo>, NoMemory>
+    requires { (g : Input) × (log : Log) × Calm world.now g log }
+    ensures { IfOk result (λ missing. (g : Input) (log : Log) → Calm world.now g log
+        → AreDones g log dones.now → stage ≡ stages.Writing → missing.items ≡ unapplied_of g log) }
+{
+    match stage {
+        Stage::Writing => missing_applies(alloc, world, dones),
+        Stage::Idle | Stage::Holding | Stage::Reading => Ok(Vec::new(alloc)),
+    }
+}
+
+/// How U stands, where these DONEs were handed to it.
+fn state_of_u(alloc: Global, world: &World<'_>, dones: &Dones) -> Result<UState, NoMemory>
+    requires { (g : Input) × (log : Log) × Calm world.now g log }
+    ensures { IfOk result (λ state. (g : Input) (log : Log) → Calm world.now g log
+        → AreDones g log dones.now → state ≡ reported_u (setting_of g U) (local_of g U log)) }
+{
+    let u_module = world.sites().u_module();
+    let stage = stage_at(u_module);
+    let missing = awaited_applies(alloc, world, dones, stage)?;
+    let state = u_state(alloc, u_module, stage, missing.as_slice())?;
+    Ok(state)
+}
+
 /// How a site stands, where these DONEs were handed to U.
 pub(crate) fn state(
     alloc: Global,
@@ -313,10 +361,7 @@ pub(crate) fn state(
 {
     let sites = world.sites();
     match at {
-        Site::U => {
-            let missing = missing_applies(alloc, world, dones)?;
-            Ok(SiteState::U(u_state(alloc, sites.u_module(), missing.as_slice())?))
-        }
+        Site::U => Ok(SiteState::U(state_of_u(alloc, world, dones)?)),
         Site::T(tm) => Ok(SiteState::T(tm_state(alloc, tm, sites.txn_module(tm))?)),
         Site::D(dm) => {
             let down = world.is_down(dm);

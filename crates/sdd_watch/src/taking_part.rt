@@ -5,7 +5,8 @@ ghost use Rattle.sdd_obligations.specs.All.{Input, IsSiteOf, Log, Redeclare, Sit
 ghost use Rattle.sdd_obligations.specs.logs.Due.{home_of as class_site};
 ghost use Rattle.sdd_inside.specs.declared.delta.Found.{Found as Finding};
 ghost use Rattle.sdd_run.specs.world.Represents.{Calm};
-ghost use Rattle.sdd_watch.specs.Happens.{concerns, is_something, takes_part};
+ghost use Rattle.sdd_watch.specs.Happens.{concerns, found_by, is_something, last_event, takes_part};
+ghost use Rattle.sdd_watch.specs.Reaching.{given_to};
 ghost use Rattle.sdd_watch.specs.States.{state_of};
 ghost use Rattle.sdd_watch.specs.Watching.{AreDones, IsOver, arrived as arrived_between};
 
@@ -57,14 +58,24 @@ fn is_found_at(found: &Found, here: Site, at: Site) -> bool
     is_something(found) && is_same(here, at)
 }
 
-/// Whether an event by itself lets a site take part.
-fn concerns(world: &World<'_>, event: &Event, found: &Found, at: Site) -> bool
+/// The site to which an event gives a transaction, and U where it gives none.
+fn given_to(world: &World<'_>, event: &Event) -> Site
     requires { (g : Input) × (log : Log) × Calm world.now g log }
-    ensures { (g : Input) (log : Log) → Calm world.now g log
+    ensures { (g : Input) (log : Log) → Calm world.now g log → result ≡ given_to g log event.now }
+{
+    match event {
+        Event::Submit(number) => home_of(world, *number),
+        _ => Site::U,
+    }
+}
+
+/// Whether an event by itself lets a site take part, which gives a transaction, if any, to `home`.
+fn concerns(event: &Event, found: &Found, home: Site, at: Site) -> bool
+    ensures { (g : Input) (log : Log) → home ≡ given_to g log event.now
         → result ≡ concerns g log event.now found.now at }
 {
     match event {
-        Event::Submit(number) => is_same(home_of(world, *number), at),
+        Event::Submit(_) => is_same(home, at),
         Event::Tick { tm, .. } => is_same(Site::T(*tm), at),
         Event::Down(dm) => is_found_at(found, Site::D(*dm), at),
         Event::Up(dm) => is_found_at(found, Site::D(*dm), at),
@@ -81,40 +92,32 @@ pub(crate) fn is_reached(arrived: &[Arrived], at: Site) -> bool
 }
 
 /// Whether a site takes part in an event that is carried out.
-fn takes_part(
-    world: &World<'_>,
-    event: &Event,
-    found: &Found,
-    arrived: &[Arrived],
-    at: Site,
-) -> bool
-    requires { (g : Input) × (old : Log) × (new : Log)
-        × IsOver g old new world.now event.now found.now }
-    ensures { (g : Input) (old new : Log) → IsOver g old new world.now event.now found.now
-        → arrived.now ≡ arrived_between g old new → result ≡ takes_part g old new at }
+fn takes_part(event: &Event, found: &Found, home: Site, arrived: &[Arrived], at: Site) -> bool
+    ensures { (g : Input) (old new : Log) → event.now ≡ last_event new
+        → found.now ≡ found_by event.now old new → arrived.now ≡ arrived_between g old new
+        → home ≡ given_to g new event.now → result ≡ takes_part g old new at }
 {
     if is_reached(arrived, at) {
         return true;
     }
-    concerns(world, event, found, at)
+    concerns(event, found, home, at)
 }
 
 /// Adds a site, where it takes part.
 fn add_busy(
-    world: &World<'_>,
     event: &Event,
     found: &Found,
+    home: Site,
     arrived: &[Arrived],
     at: Site,
     busy: &mut Vec<Site>,
 ) -> Result<(), NoMemory>
-    requires { (g : Input) × (old : Log) × (new : Log)
-        × IsOver g old new world.now event.now found.now }
-    ensures { OnOk result ((g : Input) (old new : Log)
-        → IsOver g old new world.now event.now found.now → arrived.now ≡ arrived_between g old new
+    ensures { OnOk result ((g : Input) (old new : Log) → event.now ≡ last_event new
+        → found.now ≡ found_by event.now old new → arrived.now ≡ arrived_between g old new
+        → home ≡ given_to g new event.now
         → busy.new.items ≡ busy.old.items ++ filter (takes_part g old new) (at ∷ [])) }
 {
-    if takes_part(world, event, found, arrived, at) {
+    if takes_part(event, found, home, arrived, at) {
         busy.push(at)?;
         return Ok(());
     }
@@ -154,8 +157,9 @@ pub(crate) fn busy(
     if arrived.is_empty() && is_on_link(event) {
         return Ok(busy);
     }
+    let home = given_to(world, event);
     for at in sites {
-        add_busy(world, event, found, arrived, *at, &mut busy)?;
+        add_busy(event, found, home, arrived, *at, &mut busy)?;
     }
     Ok(busy)
 }

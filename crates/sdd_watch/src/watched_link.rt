@@ -1,18 +1,18 @@
 //! Links, as they stood when an event was over.
-ghost use Rattle.std.specs.Prelude.{◌≡◌, ◌==◌, ◌||◌, ◌++◌, ◌∷◌, [], cond, length, map, not, IfOk, OnOk};
+ghost use Rattle.std.specs.Prelude.{◌≡◌, ◌==◌, ◌&&◌, ◌||◌, ◌++◌, ◌∷◌, [], cond, length, map, not, IfOk, OnOk};
 ghost use Rattle.std.specs.List.{cons_option};
 ghost use Rattle.sdd_obligations.specs.All.{Input, IsLinkOf, IsSiteOf, Log, Site as Place, sent};
 ghost use Rattle.sdd_inside.specs.Differences.{is_of_link, takes_one};
 ghost use Rattle.sdd_watch.specs.Awaiting.{behind};
 ghost use Rattle.sdd_run.specs.world.Represents.{Calm};
 ghost use Rattle.sdd_watch.specs.Looking.{AreSeen, advanced, arrived_with, seen_with};
-ghost use Rattle.sdd_watch.specs.Reaching.{is_touched, reach_of};
+ghost use Rattle.sdd_watch.specs.Reaching.{is_touched, may_act, reach_of};
 ghost use Rattle.sdd_watch.specs.Watching.{IsOver, all_sites, arrived, changed_links, is_still_link, is_taken, left_of, link_after, link_before, links_from, seen_between, watched_link, watched_links};
 
 use crate::at_site::AtSite;
 use crate::both::Both;
 use crate::places::is_same;
-use crate::reach::{Reach, is_touched, may_change_from, reach_of};
+use crate::reach::{Reach, is_touched, may_act, may_change_from, reach_of};
 use crate::waiting::{Purpose, Waiting};
 use sdd_inside::{Found, LinkMoment};
 use sdd_obligations::{Event, Listed, Msg, NoMemory, Packet, Packets, Site};
@@ -260,10 +260,11 @@ fn may_change(world: &World<'_>, reach: Reach, link: &WatchedLink) -> bool
         × IsLinkOf g link.now.from link.now.to }
     ensures { (g : Input) (log : Log) → Calm world.now g log → IsLinkOf g link.now.from link.now.to
         → result ≡ (is_touched reach link.now.from link.now.to
-        || not (length (sent link.now.from link.now.to log) == link.now.sent)) }
+        || may_act reach link.now.from
+        && not (length (sent link.now.from link.now.to log) == link.now.sent)) }
 {
     is_touched(reach, link.from, link.to)
-        || world.mail().count_sent(link.from, link.to) != link.sent
+        || may_act(reach, link.from) && world.mail().count_sent(link.from, link.to) != link.sent
 }
 
 /// Looks at a link where it may have changed.

@@ -137,6 +137,14 @@ fn is_quiet(before: usize, came: &[u32], left: usize) -> bool
 }
 
 impl WatchedPipe {
+    /// Whether all messages in the pipe were processed, and none was handed over on its link.
+    fn is_idle(&self, arrived: &[Arrived]) -> bool
+        ensures { result ≡ (self.now.unprocessed == 0
+            && is_empty (messages_in (find (is_on self.now.source (D self.now.dm)) arrived.now))) }
+    {
+        self.unprocessed == 0 && messages_on(arrived, self.source, Site::D(self.dm)).is_empty()
+    }
+
     /// Looks at the pipe once an event is carried out, where these messages were handed over.
     fn look(
         &mut self,
@@ -163,6 +171,9 @@ impl WatchedPipe {
             → parts.new.after.items ≡ parts.old.after.items
             ++ cond (is_changed_pipe g old new (d, c)) (pipe_after g old new (d, c) ∷ []) []) }
     {
+        if self.is_idle(arrived) {
+            return Ok(());
+        }
         let sites = world.sites();
         let module = sites.data_module(self.dm);
         let unprocessed = module.count_unprocessed(self.class);

@@ -1,4 +1,4 @@
-use Rattle.sdd_watch.proofs.All.{D, IsSiteOf, U, ap, local_of, refl, reported_dm, setting_of, state_of, subst, sym, ◌∙◌}
+use Rattle.sdd_watch.proofs.All.{D, IsSiteOf, ap, local_of, reported_dm, setting_of, state_of, subst, sym, ◌∙◌}
 use Rattle.sdd_inside.specs.declared.standing.SiteState.TheVariants as states
 use Rattle.sdd_watch.proofs.states.state.Goals as goal
 
@@ -12,9 +12,6 @@ returns-in_ok-dm_state-in-D c = λ g log here calm un.
     ap states.D (c.in_ok-dm_state-in-D.ensures s own represents ∙ ap (reported_dm s own c.in-D.dm.0) (c.is_down-down.ensures g log site calm))
     ∙ ap (state_of g log) (sym c.in-D.is)
 
-pub returns-in_ok-u_state-in-U : goal.returns-in_ok-u_state-in-U
-returns-in_ok-u_state-in-U c = λ g log here calm dones.
-    let represents = (c.u_module.ensures (setting_of g U) (local_of g U log) (c.sites-sites.ensures g log calm U refl)).represents_log in
-    ap states.U (c.in_ok-u_state-in-U.ensures (setting_of g U) (local_of g U log) represents
-    (c.as_slice.ensures.value ∙ c.in_ok-missing-in-U.ensures g log calm dones))
-    ∙ ap (state_of g log) (sym c.in-U.is)
+pub returns-in_ok-state_of_u-in-U : goal.returns-in_ok-state_of_u-in-U
+returns-in_ok-state_of_u-in-U c = λ g log here calm dones.
+    ap states.U (c.in_ok-state_of_u-in-U.ensures g log calm dones) ∙ ap (state_of g log) (sym c.in-U.is)

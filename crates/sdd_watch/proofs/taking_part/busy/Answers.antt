@@ -3,10 +3,13 @@ use Rattle.sdd_watch.proofs.SoFar.{filtered_all, filtered_to}
 use Rattle.sdd_watch.proofs.TakingPart.{none_takes}
 use Rattle.sdd_watch.proofs.taking_part.busy.Goals as goal
 
+pub given_to-home-requires : goal.given_to-home-requires
+given_to-home-requires c = let r = c.requires in (r.0, r.2, r.3.calm)
+
 pub loop-at-preserved : goal.loop-at-preserved
 loop-at-preserved c = λ g old new over same.
     filtered_to (takes_part g old new) c.args.sites.now c.loop-at.at-index U c.loop-at.busy.items c.add_busy.new.busy.items c.loop-at-test.true
-    (c.in_ok-add_busy.ensures g old new over same) (c.loop-at.invariant g old new over same)
+    (c.in_ok-add_busy.ensures g old new over.event_is over.found_is same (c.given_to-home.ensures g new over.calm)) (c.loop-at.invariant g old new over same)
 
 pub returns : goal.returns
 returns c = λ g old new over same.

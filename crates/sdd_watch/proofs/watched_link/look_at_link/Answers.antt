@@ -14,7 +14,7 @@ still : (c : goal.Then-not-may_change) (g : Input) (old new : Log) → IsOver g 
     → c.args.reach ≡ reach_of g new c.args.event.now c.args.found.now → (l : Site × Site) → IsLinkOf g l.0 l.1 → c.args.link.now ≡ watched_link old l
     → IsStill old new l
 still c g old new over is l linked stood =
-    link_passed g old new c.args.world.now c.args.event.now c.args.found.now c.args.reach l c.args.link.now c.may_change.result over is stood
+    link_passed g old new c.args.world.now c.args.event.now c.args.found.now c.args.reach l c.args.link.now c.may_change.result over is stood linked
     (c.may_change.ensures g new over.calm (link_there g old l c.args.link.now stood linked)) c.if-not-may_change.true
 
 pub returns-then-not-may_change-clause-kept : goal.returns-then-not-may_change-clause-kept

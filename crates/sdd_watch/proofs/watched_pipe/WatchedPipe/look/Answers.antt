@@ -1,6 +1,6 @@
 -- What is read of the pipe in the world is what the log gives.
 use Rattle.sdd_watch.proofs.All.{Calm, D, Input, IsBetween, IsSiteOf, List, Log, [], ap, append-nil, arrived, cond, dm_no, false, is_changed_pipe, is_empty, is_still_pipe, length, local_of, not, pipe_after, pipe_before, refl, setting_of, sym, watched_pipe, ℕ, ◌&&◌, ◌++◌, ◌+◌, ◌-◌, ◌==◌, ◌∙◌, ◌∷◌, ◌≡◌, ◌≤◌}
-use Rattle.sdd_watch.proofs.PipesLooked.{IsRead, left_over, pipe_kept, pipe_quiet, read_pipe, seen_after, seen_before}
+use Rattle.sdd_watch.proofs.PipesLooked.{IsRead, left_over, pipe_idle, pipe_kept, pipe_quiet, read_pipe, seen_after, seen_before}
 use Rattle.sdd_watch.proofs.watched_pipe.WatchedPipe.look.Goals as goal
 
 pub data_module-module-requires : goal.data_module-module-requires
@@ -71,3 +71,24 @@ pub returns-then-is_quiet-clause-after : goal.returns-then-is_quiet-clause-after
 returns-then-is_quiet-clause-after c = λ g old new calm between all d n site few is.
     sym (append-nil c.args.parts.now.after.items)
     ∙ ap (λ b. c.args.parts.now.after.items ++ cond b (pipe_after g old new (d, n) ∷ []) []) (sym (quiet c g old new calm between all d n site few is).1)
+
+-- one that is idle
+
+idle : (c : goal.Then-is_idle) (g : Input) (old new : Log) → Calm c.args.world.now g new → IsBetween g old new → c.args.arrived.now ≡ arrived g old new
+    → (d n : ℕ) → IsSiteOf g (D (dm_no d)) → n ≤ length g.catalogue.classes → c.args.self.now ≡ watched_pipe g old (d, n)
+    → (c.args.self.now ≡ watched_pipe g new (d, n)) × (is_changed_pipe g old new (d, n) ≡ false)
+idle c g old new calm between all d n site few is =
+    pipe_idle g old new d n c.args.self.now c.is_idle.result c.args.arrived.now calm.parts.good between site few is all c.is_idle.ensures c.if-is_idle.true
+
+pub returns-then-is_idle-clause-kept : goal.returns-then-is_idle-clause-kept
+returns-then-is_idle-clause-kept c = λ g old new calm between all d n site few is. (idle c g old new calm between all d n site few is).0
+
+pub returns-then-is_idle-clause-before : goal.returns-then-is_idle-clause-before
+returns-then-is_idle-clause-before c = λ g old new calm between all d n site few is.
+    sym (append-nil c.args.parts.now.before.items)
+    ∙ ap (λ b. c.args.parts.now.before.items ++ cond b (pipe_before g old new (d, n) ∷ []) []) (sym (idle c g old new calm between all d n site few is).1)
+
+pub returns-then-is_idle-clause-after : goal.returns-then-is_idle-clause-after
+returns-then-is_idle-clause-after c = λ g old new calm between all d n site few is.
+    sym (append-nil c.args.parts.now.after.items)
+    ∙ ap (λ b. c.args.parts.now.after.items ++ cond b (pipe_after g old new (d, n) ∷ []) []) (sym (idle c g old new calm between all d n site few is).1)
