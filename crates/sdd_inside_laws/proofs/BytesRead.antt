@@ -2,7 +2,7 @@
 use Rattle.std.proofs.Common.{ap, arith, subst, sym, ◌∙◌}
 use Rattle.std.proofs.lemmas.List.{map-append}
 use Rattle.std.proofs.lemmas.List.Sums.{fold-append}
-use Rattle.std.specs.Prelude.{ℕ, zero, suc, ◌+◌, ◌-◌, ◌≡◌, ◌≤◌, List, [], ◌∷◌, ◌++◌, map, take, refl}
+use Rattle.std.specs.Prelude.{ℕ, zero, suc, ◌+◌, ◌-◌, ◌≡◌, ◌<◌, ◌≤◌, List, [], ◌∷◌, ◌++◌, map, take, refl}
 use Rattle.std.specs.List.{AllByRecursion, flat_map, range_with_len}
 use Rattle.sdd_inside.specs.Lines.{beginning, line}
 use Rattle.sdd_inside.specs.declared.delta.Delta.{Delta}
@@ -11,7 +11,7 @@ use Rattle.sdd_inside_laws.proofs.RunRead.{one_change, read_to}
 use Rattle.sdd_inside_laws.proofs.TextRead.{told_read}
 use Rattle.sdd_inside_laws.specs.Reader.{Known, known, read}
 use Rattle.sdd_inside_laws.specs.TextReader.{HaveOwnNames, TextKnown, by_names, read_all_told, read_told}
-use Rattle.sdd_inside_laws.specs.WholeRun.{HasSmallLines, IsReadFromBytes, change_at, changes_to, nothing_yet, read_all}
+use Rattle.sdd_inside_laws.specs.WholeRun.{IsReadFromBytes, change_at, changes_to, nothing_yet, read_all}
 use Rattle.sdd_inside_read.proofs.LinesRead.{lines_again}
 use Rattle.sdd_inside_read.specs.LineReader.{event_lines, read_line}
 use Rattle.sdd_inside_read.specs.Small.{HasSmallNumbers}
@@ -21,6 +21,10 @@ use Rattle.sdd_watch.proofs.EachEvent.{at_self}
 use Rattle.sdd_watch.specs.Moments.{at_event}
 use Rattle.sdd_watch.specs.Text.{change}
 use Rattle.sdd_watch.specs.run.world.Copies.{tables_of}
+
+-- the numbers in the lines of a run have 64 bits at most
+abbrev pub HasSmallLines : Input → Log → Type 0
+HasSmallLines g log = (k : ℕ) → k < marks log → HasSmallNumbers (change g (at_event k log) (at_event (suc k) log))
 
 module _ (g : Input) (log : Log) (good : IsGood g) (the_log : IsTheLog g log) (own : HaveOwnNames g.catalogue) where
   abbrev tells : Delta → Told

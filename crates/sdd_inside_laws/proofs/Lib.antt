@@ -16,5 +16,10 @@ mod QueueNumbers
 mod QueuesRead
 mod Resting
 mod RunRead
+mod SmallLines
+mod SmallLinks
+mod SmallPipes
+mod SmallPlaces
+mod SmallQueues
 mod TextRead
 mod WholeRead

@@ -27,12 +27,12 @@ each_more : {B : Type 0} (P : B → Type 0) (xs ys : List B) → AllByRecursion 
 each_more P [] ys h k = k
 each_more P (x ∷ xs) ys h k = (h.0, each_more P xs ys h.1 k)
 
-each_flat : {A B : Type 0} (P : B → Type 0) (f : A → List B) (xs : List A) → ((k : ℕ) (x : A) → slice_get xs k ≡ Some x → AllByRecursion P (f x))
+pub each_flat : {A B : Type 0} (P : B → Type 0) (f : A → List B) (xs : List A) → ((k : ℕ) (x : A) → slice_get xs k ≡ Some x → AllByRecursion P (f x))
     → AllByRecursion P (flat_map f xs)
 each_flat P f [] h = tt
 each_flat P f (x ∷ xs) h = each_more P (f x) (flat_map f xs) (h 0 x refl) (each_flat P f xs (λ k y e. h (suc k) y e))
 
-each_if : {B : Type 0} (P : B → Type 0) (b : Bool) (x : B) → P x → AllByRecursion P (if b then [] else x ∷ [])
+pub each_if : {B : Type 0} (P : B → Type 0) (b : Bool) (x : B) → P x → AllByRecursion P (if b then [] else x ∷ [])
 each_if P true x h = tt
 each_if P false x h = (h, tt)
 

@@ -45,7 +45,7 @@ not_first (suc j) n (x ∷ xs) h = not_first j n xs h.1
 
 -- the place of the first that is left
 
-gone_is : (before after : List TxnNo) → gone before after ≡ position_or_len (is_first after) before
+pub gone_is : (before after : List TxnNo) → gone before after ≡ position_or_len (is_first after) before
 gone_is before after = elim (cases_lt (position_or_len (is_first after) before) (length before)) [
   | inl l ↦ rw (lt-ltb (position_or_len (is_first after) before) (length before) l) refl
   | inr g ↦ rw (le-ltb (position_or_len (is_first after) before) (length before) g) (omega (arith, g, prefix_len-le-length (λ n. not (is_first after n)) before))

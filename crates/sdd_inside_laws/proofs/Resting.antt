@@ -1,7 +1,7 @@
 -- Before each event of a run, and at its end, all is done that the earlier events made due.
 use Rattle.std.proofs.Common.{ap, arith, inl, inr, lt-ltb, subst, sym, ◌∙◌}
 use Rattle.std.proofs.lemmas.Bool.{cases_lt}
-use Rattle.std.specs.Prelude.{ℕ, zero, suc, ◌+◌, ◌-◌, ◌<◌, ◌≡◌, nat_le, Bool, true, false, if◌then◌else◌, List, [], ◌∷◌, ◌++◌, length, slice_get, Option, Some, None, refl}
+use Rattle.std.specs.Prelude.{ℕ, zero, suc, ◌-◌, ◌<◌, ◌≡◌, nat_le, Bool, true, false, if◌then◌else◌, List, [], ◌∷◌, ◌++◌, length, slice_get, Option, Some, None, refl}
 use Rattle.sdd_obligations.proofs.invariants.InOrder.{delivered_within, handed_le}
 use Rattle.sdd_obligations.proofs.invariants.Sent.{sent_grows}
 use Rattle.sdd_obligations.proofs.invariants.Sites.{site_is}

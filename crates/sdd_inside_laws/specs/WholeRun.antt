@@ -1,5 +1,5 @@
 -- A whole run, read line by line: its lines, what a reader begins with, and what he has after so many lines.
-use Rattle.std.specs.Prelude.{ℕ, suc, ◌-◌, ◌≡◌, ◌<◌, ◌≤◌, List, [], ◌++◌, fold, map, take}
+use Rattle.std.specs.Prelude.{ℕ, ◌-◌, ◌≡◌, ◌≤◌, List, [], ◌++◌, fold, map, take}
 use Rattle.std.specs.List.{flat_map}
 use Rattle.sdd_obligations.specs.All.{Input, Log, Site, all_links, class_no, dm_no, marks, numbers_to, time_at}
 use Rattle.sdd_inside.specs.Lines.{beginning, line}
@@ -8,7 +8,6 @@ use Rattle.sdd_inside.specs.declared.moment.QueueMoment.{QueueMoment}
 use Rattle.sdd_inside_laws.specs.Reader.{Known, KnownLink, KnownPipe, known, queue_classes, read}
 use Rattle.sdd_inside_laws.specs.TextReader.{by_names, read_all_told}
 use Rattle.sdd_inside_read.specs.LineReader.{event_lines, read_line}
-use Rattle.sdd_inside_read.specs.Small.{HasSmallNumbers}
 use Rattle.sdd_watch.specs.Moments.{all_pipes, at_event}
 use Rattle.sdd_watch.specs.Text.{change}
 use Rattle.sdd_watch.specs.run.world.Copies.{tables_of}
@@ -39,10 +38,6 @@ nothing_yet g = record { links = map empty_link (all_links g); queues = map empt
 -- what he has who reads these lines one after the other
 abbrev pub read_all : List Delta → Known → Known
 read_all lines before = fold (λ known line. read line known) before lines
-
--- the numbers in the lines of a run have 64 bits at most
-abbrev pub HasSmallLines : Input → Log → Type 0
-HasSmallLines g log = (k : ℕ) → k < marks log → HasSmallNumbers (change g (at_event k log) (at_event (suc k) log))
 
 -- The text is a first line and the lines of the events; who reads the first so many of them has what there is when so many
 -- events are over, and who reads all has what there is at the end.

@@ -4,7 +4,7 @@ ghost use Rattle.sdd_inside.specs.Lines.{line};
 ghost use Rattle.sdd_inside.specs.declared.delta.Delta.{Delta};
 ghost use Rattle.sdd_inside_laws.specs.Reader.{Known, known, read};
 ghost use Rattle.sdd_inside_laws.specs.TextReader.{AreOfCatalogue, HaveOwnNames, by_names, read_told};
-ghost use Rattle.sdd_inside_laws.specs.WholeRun.{HasSmallLines, IsReadBack, IsReadFromBytes};
+ghost use Rattle.sdd_inside_laws.specs.WholeRun.{IsReadBack, IsReadFromBytes};
 ghost use Rattle.sdd_inside_read.specs.LineReader.{read_line};
 ghost use Rattle.sdd_inside_read.specs.Small.{HasSmallNumbers};
 ghost use Rattle.sdd_obligations.specs.catalog.Naming.{AreNamed};
@@ -45,11 +45,10 @@ pub fn law_read_bytes()
 
 /// A law: the same of the bytes of the text. A reader cuts it into lines and these into their members, knows
 /// classes and transactions by their names and messages by what the text tells of them, and begins with
-/// nothing; after each line he has what there is, by names. The numbers in the lines have 64 bits at most: so the
-/// program keeps them, but that those of every run have is a premise here, and proved of none.
+/// nothing; after each line he has what there is, by names. The numbers in the lines of a run have 64 bits at
+/// most, since it stays within the limits of events and of messages on a link.
 pub fn law_read_text()
     ensures { (catalogue : Catalogue) (work : Workload) (text : List ℕ) → IsSoundCatalogue catalogue
         → AreNamed catalogue → IsValid catalogue work → (inside : IsInsideOf catalogue work text)
-        → HasSmallLines (input inside.of_run) inside.of_run.log
         → IsReadFromBytes (input inside.of_run) inside.of_run.log text }
 {}
