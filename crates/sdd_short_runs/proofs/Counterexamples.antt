@@ -1,5 +1,5 @@
 -- A short run that all commit in, and that no order explains, is a counterexample.
-use Rattle.sdd_short_runs.proofs.All.{AreCommitted, lent_txns, flat_map, Change, Bool, Catalogue, Contains, Contains-cases, Contains-here, Contains-later, Contains-nil, Database, Effect, HasOrder, IsOf, IsReplay, IsShortCounterexample, List, Log, Txn, [], after_changes, after_effects, and_parts, ap, arith, begins, change_one_item, database, effect, effect_of, effects_in_turn, ends, false, fold-append, in_turn, inl, inr, length, list_all, not, not-true, range_with_len, refl, short_log, slice_index_or, subst, succeeds, suc, sym, true, txn_of, zero, ℕ, ◌&&◌, ◌++◌, ◌+◌, ◌<◌, ◌∙◌, ◌∷◌, ◌≡◌, ◌≤◌, ◌⊎◌}
+use Rattle.sdd_short_runs.proofs.All.{AreCommitted, all_commit, lent_txns, flat_map, Change, Bool, Catalogue, Contains, Contains-cases, Contains-here, Contains-later, Contains-nil, Database, Effect, HasOrder, IsOf, IsReplay, IsShortCounterexample, List, Log, Txn, [], after_changes, after_effects, and_parts, ap, arith, begins, change_one_item, database, effect, effect_of, effects_in_turn, ends, false, fold-append, in_turn, inl, inr, length, list_all, not, not-true, range_with_len, refl, short_log, slice_index_or, subst, succeeds, suc, sym, true, txn_of, zero, ℕ, ◌&&◌, ◌++◌, ◌+◌, ◌<◌, ◌∙◌, ◌∷◌, ◌≡◌, ◌≤◌, ◌⊎◌}
 use Rattle.sdd_short_runs.proofs.Searching.{made_all}
 use Rattle.sdd_short_runs.proofs.Turns.{long_lent}
 use Rattle.std.specs.Borrow.{Bor}
@@ -211,6 +211,10 @@ none_explains cat first outer inner effects are ok work of none =
 
 -- there are as many effects as transactions, and as many numbers
 
+pub long_run : (cat : Catalogue) (first : Database) (outer : Txn) (inner : List Txn)
+    → suc (length inner) ≡ length (effects_in_turn cat first inner ++ effect cat first outer ∷ [])
+long_run cat first outer inner = ap suc (sym (long_effects cat first inner)) ∙ sym (long_push (effects_in_turn cat first inner) (effect cat first outer))
+
 pub as_many : (cat : Catalogue) (first : Database) (outer : Txn) (inner : List Txn) (txns : List (Bor Txn)) (effects : List Effect)
     → lent_txns txns ≡ inner ++ outer ∷ [] → effects ≡ effects_in_turn cat first inner ++ effect cat first outer ∷ [] → length txns ≡ length effects
 as_many cat first outer inner txns effects texts made =
@@ -243,3 +247,12 @@ are_committed cat first outer inner own made effects a b e ok =
       commit = subst (λ z. (succeeds z.reply && list_all (λ f. succeeds f.reply && not (change_one_item cat f z)) (effects_in_turn cat first inner)) ≡ true) a
           (subst (λ z. (succeeds own.reply && list_all (λ f. succeeds f.reply && not (change_one_item cat f own)) z) ≡ true) b ok);
     }
+
+-- and those in which not all do
+pub not_committed : (cat : Catalogue) (first : Database) (outer : Txn) (inner : List Txn) (own : Effect) (made : List Effect)
+    → own ≡ effect cat first outer → made ≡ effects_in_turn cat first inner
+    → (succeeds own.reply && list_all (λ e. succeeds e.reply && not (change_one_item cat e own)) made) ≡ false
+    → all_commit cat first outer inner ≡ false
+not_committed cat first outer inner own made a b fails =
+    subst (λ z. (succeeds z.reply && list_all (λ f. succeeds f.reply && not (change_one_item cat f z)) (effects_in_turn cat first inner)) ≡ false) a
+    (subst (λ z. (succeeds own.reply && list_all (λ f. succeeds f.reply && not (change_one_item cat f own)) z) ≡ false) b fails)

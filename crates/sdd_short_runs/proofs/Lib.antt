@@ -5,3 +5,5 @@ pub mod Searching
 pub mod Turns
 pub mod Kept
 pub mod Counterexamples
+pub mod Replies
+pub mod TriedPairs

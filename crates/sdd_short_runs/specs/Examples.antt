@@ -7,6 +7,9 @@ use Rattle.sdd_order.specs.Examples.{crossing}
 use Rattle.sdd_snapshot_replay.specs.Logs.Step.{begins, ends}
 use Rattle.sdd_robust_laws.specs.RunExamples.{adds, reader, shows, skew, text, two_rows}
 use Rattle.sdd_robust_laws.specs.Runs.{change_one_item}
+use Rattle.sdd_robust.specs.Members.{members_of}
+use Rattle.sdd_short_runs.specs.Found.{all_commit}
+use Rattle.sdd_short_runs.specs.Pairs.{tried_pairs}
 use Rattle.sdd_short_runs.specs.ShortRuns.{effect_of, short_log}
 
 -- the outer one begins first and ends last
@@ -26,6 +29,16 @@ skew_may_end = refl
 
 pub skew_replies : map (λ n. (effects (skew 1) (skew 2 ∷ []) n).reply) (0 ∷ 1 ∷ []) ≡ shows (0 ∷ 0 ∷ [])
 skew_replies = refl
+
+-- of these two transactions each may be the outer one
+abbrev workload : List Txn
+workload = skew 1 ∷ skew 2 ∷ []
+
+pub skew_pairs : map {B = ℕ × ℕ} (λ p. (p.0.place, p.1.place)) (tried_pairs (members_of crossing workload two_rows)) ≡ (0, 1) ∷ (1, 0) ∷ []
+skew_pairs = refl
+
+pub skew_commits : all_commit crossing two_rows (skew 1) (skew 2 ∷ []) ≡ true
+skew_commits = refl
 
 -- a lost update is none: of two runs of one increment the outer one may not end
 pub increments_may_not : may_both (text (adds 1 5 ∷ [])) (text (adds 1 5 ∷ [])) ≡ false

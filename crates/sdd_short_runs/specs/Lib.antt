@@ -1,5 +1,6 @@
 pub mod ShortRuns
 pub mod Orders
 pub mod Found
+pub mod Pairs
 pub mod Tried
 pub mod Examples

@@ -21,6 +21,12 @@ pub record HasOrder (cat : Catalogue) (txns : ℕ → Txn) (effects : ℕ → Ef
   pub of : IsOrderOf numbers order
   pub explains : Explains cat txns effects last db order
 
+-- from this database the runs in some order of these numbers give their replies, whatever database they end in
+pub record HasReplyOrder (cat : Catalogue) (txns : ℕ → Txn) (effects : ℕ → Effect) (db : Database) (numbers : List ℕ) : Type 0 where
+  pub order : List ℕ
+  pub of : IsOrderOf numbers order
+  pub replies : (serial cat db (map txns order)).0 ≡ map (λ n. (effects n).reply) order
+
 -- the numbers but one
 abbrev pub without : List ℕ → ℕ → List ℕ
 without numbers n = filter (λ m. not (m == n)) numbers

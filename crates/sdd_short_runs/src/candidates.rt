@@ -243,12 +243,6 @@ impl<'a> Search<'a> {
 
     /// Adds the paths that begin with one and end with one that may be the last.
     fn add_paths(&mut self, near: &Near<'a>, first: u32, last: &Last) -> Result<(), NoMemory> {
-        if self.length == 1 {
-            if last.places.as_slice().contains(&first) {
-                self.add(near, &[first])?;
-            }
-            return Ok(());
-        }
         if self.length > 2 {
             return self.add_threes(near, first, last);
         }
@@ -277,15 +271,15 @@ impl<'a> Search<'a> {
         if places.is_empty() {
             return Ok(known);
         }
-        let last = last_with(self.alloc, near, known, places, self.length)?;
+        let last = last_with(self.alloc, near, known, places)?;
         near.learn(first)?;
         self.add_paths(near, first, &last)?;
         Ok(last)
     }
 }
 
-/// The first candidates of a pivot with so many others, at most so many of them. The others conflict
-/// each with the next.
+/// The first candidates of a pivot with so many others, two or three, at most so many of them. The
+/// others conflict each with the next.
 pub(crate) fn candidates_of<'a>(
     alloc: Global,
     near: &mut Near<'a>,
@@ -339,15 +333,10 @@ fn last_with(
     near: &mut Near,
     known: Last,
     places: Vec<u32>,
-    length: usize,
 ) -> Result<Last, NoMemory> {
     if known.places.as_slice() == places.as_slice() {
         return Ok(known);
     }
-    let is_before = if length == 1 {
-        Vec::new(alloc)
-    } else {
-        before(alloc, near, places.as_slice())?
-    };
+    let is_before = before(alloc, near, places.as_slice())?;
     Ok(Last { places, is_before })
 }

@@ -3,6 +3,10 @@
 //!
 //! The one contract to the layer above: `find_counterexample` carries short runs out, and one that it
 //! gives is like no serial run (`IsShortCounterexample` of `specs/ShortRuns.antt`).
+//!
+//! Where it gives none, of each pair of transactions that is tried (`tried_pairs` of `specs/Pairs.antt`)
+//! not both commit in such a run, or some order of the two gives its replies (`IsExplainedPair` of
+//! `specs/Found.antt`).
 #![tactic(auto)]
 
 mod candidates;
@@ -10,5 +14,6 @@ mod carrying;
 mod finding;
 mod near;
 mod orders;
+mod pairs;
 
 pub use finding::{ShortRun, find_counterexample};

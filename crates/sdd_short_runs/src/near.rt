@@ -1,4 +1,6 @@
 //! Which transactions of a workload conflict.
+ghost use Rattle.std.specs.Prelude.{◌≡◌, IfOk};
+
 use sdd_lang::NoMemory;
 use sdd_robust::{Changes, Member, are_apart, conflict};
 use std::alloc::Global;
@@ -38,7 +40,9 @@ fn conflicting_with(alloc: Global, all: &[Member], one: &Member) -> Result<Vec<u
 }
 
 impl<'a> Near<'a> {
-    pub fn new(alloc: Global, all: &'a [Member]) -> Result<Near<'a>, NoMemory> {
+    pub fn new(alloc: Global, all: &'a [Member]) -> Result<Near<'a>, NoMemory>
+        ensures { IfOk result (λ near. near.changes ≡ all.now) }
+    {
         let mut conflicting = Vec::with_capacity(alloc, all.len())?;
         for _ in 0..all.len() {
             conflicting.push(Vec::new(alloc))?;

@@ -3,7 +3,7 @@ ghost use Rattle.std.specs.Prelude.{◌≡◌, ◌<◌, ◌++◌, ℕ, Contains,
 ghost use Rattle.sdd_lang.specs.All.{effect};
 ghost use Rattle.sdd_lang.specs.declared.effect.Effect.{Effect};
 ghost use Rattle.sdd_lang.specs.declared.transaction.Txn.{Txn};
-ghost use Rattle.sdd_short_runs.specs.Orders.{BeginsWith, HasOrder, without};
+ghost use Rattle.sdd_short_runs.specs.Orders.{BeginsWith, HasOrder, HasReplyOrder, without};
 ghost use Rattle.sdd_short_runs.specs.Tried.{IsTried, database_with, effect_at, last_database, txn_at};
 
 use crate::carrying::{add_changes, effect_after, is_same_reply};
@@ -76,7 +76,8 @@ fn effect_of(alloc: Global, run: &Run, made: &[Change], number: usize) -> Result
 fn has_reply(run: &Run, number: usize, effect: &Effect) -> bool
     requires tried { IsTried run.now }
     requires there { number < length run.now.effects.now }
-    ensures { (d : Effect) → effect.now.reply ≡ (effect_at run.now d number).reply → result ≡ true }
+    ensures same { (d : Effect) → effect.now.reply ≡ (effect_at run.now d number).reply → result ≡ true }
+    ensures is { (d : Effect) → result ≡ true → effect.now.reply ≡ (effect_at run.now d number).reply }
 {
     is_same_reply(&run.effects[number].reply, &effect.reply)
 }
@@ -104,6 +105,9 @@ fn begin_with(
     ensures order { IfOk result (λ found. IfSome found (λ b. (t : Txn) (e : Effect)
         → BeginsWith run.now.catalogue.now (txn_at run.now t) (effect_at run.now e) (last_database run.now) (database_with run.now made.now) left.now number
         → HasOrder run.now.catalogue.now (txn_at run.now t) (effect_at run.now e) (last_database run.now) (database_with run.now b.made.items) b.left.items)) }
+    ensures replies { IfOk result (λ found. IfSome found (λ b. (t : Txn) (e : Effect) → Contains left.now number
+        → HasReplyOrder run.now.catalogue.now (txn_at run.now t) (effect_at run.now e) (database_with run.now b.made.items) b.left.items
+        → HasReplyOrder run.now.catalogue.now (txn_at run.now t) (effect_at run.now e) (database_with run.now made.now) left.now)) }
 {
     let effect = effect_of(alloc, run, made, number)?;
     if !has_reply(run, number, &effect) {
@@ -124,9 +128,11 @@ pub(crate) fn has_order<'a>(
 ) -> Result<bool, NoMemory>
     requires tried { IsTried run.now }
     requires there { (n : ℕ) → Contains left.now n → n < length run.now.txns.now }
-    ensures { IfOk result (λ found. (t : Txn) (e : Effect)
+    ensures order { IfOk result (λ found. (t : Txn) (e : Effect)
         → HasOrder run.now.catalogue.now (txn_at run.now t) (effect_at run.now e) (last_database run.now) (database_with run.now made.now) left.now
         → found ≡ true) }
+    ensures replies { IfOk result (λ found. found ≡ true → (t : Txn) (e : Effect)
+        → HasReplyOrder run.now.catalogue.now (txn_at run.now t) (effect_at run.now e) (database_with run.now made.now) left.now) }
 {
     if left.is_empty() {
         return is_last(alloc, run, made);

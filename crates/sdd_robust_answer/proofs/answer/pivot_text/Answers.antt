@@ -15,7 +15,7 @@ find_counterexample-requires-clause-fit c = rw c.as_slice-txns.ensures (txns_fit
 pub returns-in-Some : goal.returns-in-Some
 returns-in-Some c =
     let short = c.in-Some.short in
-    let is = rw c.in-Some.is at c.in_ok-short.ensures in
+    let is = rw c.in-Some.is at c.in_ok-short.ensures.found in
     IfOk-weaker c.not_robust.result _ _
     (λ text spelled. not_robust short.outer.now (lent_txns short.inner.items) (rw (c.as_slice-rows.ensures, c.as_slice-txns.ensures) at is) spelled)
     c.not_robust.ensures

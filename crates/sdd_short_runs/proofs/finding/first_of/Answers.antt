@@ -9,4 +9,4 @@ is_counterexample-requires-clause-inner c =
 
 pub returns-then-branch : goal.returns-then-branch
 returns-then-branch c =
-    c.in_ok-is_counterexample-in-Some.ensures c.if-branch.true c.args.txns.now (rw c.in-Some.is at c.in_ok-short.ensures)
+    c.in_ok-is_counterexample-in-Some.ensures.found c.if-branch.true c.args.txns.now (rw c.in-Some.is at c.in_ok-short.ensures)

@@ -1,15 +1,25 @@
 use Rattle.sdd_short_runs.proofs.All.{FitsTxn, ap, effect, effects_in_turn, length, lent_txns, ◌∙◌}
 use Rattle.sdd_short_runs.proofs.Counterexamples.{all_there, as_many, refuted}
 use Rattle.sdd_short_runs.proofs.Kept.{all_of_run, all_succeed}
+use Rattle.sdd_short_runs.proofs.Replies.{of_short_run, some_found}
 use Rattle.sdd_short_runs.proofs.finding.has_none.Goals as goal
 
-pub returns : goal.returns
-returns c = λ none e order.
-    refuted c.args.catalogue.now c.args.short.now.outer.now (lent_txns c.args.short.now.inner.items) (lent_txns c.as_slice.result.now) c.args.effects.now c.args.base.now.value
+pub returns-clause-none : goal.returns-clause-none
+returns-clause-none c = λ none e order.
+    refuted c.args.catalogue.now c.args.short.now.outer.now (lent_txns c.args.short.now.inner.items) (lent_txns c.as_slice.result.now)
+    c.args.effects.now c.args.base.now.value
     c.as_slice-2.result.now c.as_slice-3.result.now e c.in_ok-found.found (ap lent_txns c.as_slice.ensures.value ∙ c.in_ok-txns.ensures)
     (c.as_slice-2.ensures.value ∙ c.in_ok-changes.ensures)
     (c.as_slice-3.ensures.value ∙ c.in_ok-left.ensures)
-    (c.in_ok-found.ensures c.args.short.now.outer.now e) none order
+    (c.in_ok-found.ensures.order c.args.short.now.outer.now e) none order
+
+pub returns-clause-order : goal.returns-clause-order
+returns-clause-order c = λ none e.
+    of_short_run c.args.catalogue.now c.args.short.now.outer.now (lent_txns c.args.short.now.inner.items) (lent_txns c.as_slice.result.now)
+    c.args.effects.now c.args.base.now.value
+    c.as_slice-3.result.now e (ap lent_txns c.as_slice.ensures.value ∙ c.in_ok-txns.ensures)
+    (c.as_slice-3.ensures.value ∙ c.in_ok-left.ensures)
+    (c.in_ok-found.ensures.replies (some_found c.in_ok-found.found none) c.args.short.now.outer.now e)
 
 pub has_order-requires-clause-tried : goal.has_order-requires-clause-tried
 has_order-requires-clause-tried c =

@@ -1,0 +1,12 @@
+use Rattle.sdd_short_runs.proofs.All.{FitsTxn, lent_txns}
+use Rattle.sdd_short_runs.proofs.Kept.{inner_fit}
+use Rattle.sdd_short_runs.proofs.finding.try_pair.Goals as goal
+
+pub is_counterexample-requires-clause-inner : goal.is_counterexample-requires-clause-inner
+is_counterexample-requires-clause-inner c =
+    inner_fit (FitsTxn c.args.catalogue.now) c.args.txns.now c.in-Some.short.outer.now (lent_txns c.in-Some.short.inner.items)
+    (rw c.in-Some.is at c.in_ok-short.ensures.of) c.requires.fit
+
+pub returns-then-branch-clause-found : goal.returns-then-branch-clause-found
+returns-then-branch-clause-found c =
+    c.in_ok-is_counterexample-in-Some.ensures.found c.if-branch.true c.args.txns.now (rw c.in-Some.is at c.in_ok-short.ensures.of)
