@@ -1,12 +1,15 @@
 -- What is answered of a workload's transactions.
-use Rattle.std.specs.Prelude.{ℕ, ◌≡◌, List, [], ◌∷◌, ◌++◌, codes, map, slice_index_or}
-use Rattle.std.specs.List.{flat_map}
+use Rattle.std.specs.Prelude.{ℕ, ◌≡◌, List, [], ◌++◌, codes, map, slice_index_or}
+use Rattle.std.specs.List.{All, flat_map}
 use Rattle.sdd_lang.specs.All.{Catalogue, database_of}
 use Rattle.sdd_lang.specs.declared.transaction.Txn.{Txn}
 use Rattle.sdd_script.specs.declared.workload.Workload.{Workload}
 use Rattle.sdd_robust_laws.specs.Runs.{IsRobust}
+use Rattle.sdd_robust.specs.Members.{members_of}
 use Rattle.sdd_robust.specs.Workloads.{IsPivotOf}
 use Rattle.sdd_robust.specs.declared.judging.Places.{Places}
+use Rattle.sdd_short_runs.specs.Found.{IsExplainedPair}
+use Rattle.sdd_short_runs.specs.Pairs.{tried_pairs}
 use Rattle.sdd_short_runs.specs.ShortRuns.{IsShortCounterexample}
 
 abbrev pub robust_text : List ℕ
@@ -38,11 +41,16 @@ unknown_text txns at =
     ++ (codes " reads what "
     ++ (name_at txns at.missed ++ (codes " changes, and changes what " ++ (name_at txns at.missing ++ codes " reads\n")))))
 
+-- each pair of the workload's transactions that is tried has an order that gives its replies, where both commit
+abbrev pub AreExplained : Catalogue → Workload → Type 0
+AreExplained cat work =
+    All (IsExplainedPair cat (database_of cat work.rows) work.txns) (tried_pairs (members_of cat work.txns (database_of cat work.rows)))
+
 -- The text answers truly: it says that the transactions are robust only where they are, and that they aren't only with a
--- run that is like no serial one; else it names a transaction that is dangerous by two others.
+-- run that is like no serial one; else it names a transaction that is dangerous by two others, and pairs were tried before.
 pub data IsRobustAnswer (cat : Catalogue) (work : Workload) (text : List ℕ) : Type 0 where
   robust : IsRobust cat work.txns (database_of cat work.rows) → text ≡ robust_text → IsRobustAnswer cat work text
   not_robust : (outer : Txn) (inner : List Txn) → IsShortCounterexample cat work.txns (database_of cat work.rows) outer inner
       → text ≡ not_robust_text outer inner → IsRobustAnswer cat work text
-  unknown : (at : Places) → IsPivotOf cat work.txns (database_of cat work.rows) at → text ≡ unknown_text work.txns at
-      → IsRobustAnswer cat work text
+  unknown : (at : Places) → IsPivotOf cat work.txns (database_of cat work.rows) at → AreExplained cat work
+      → text ≡ unknown_text work.txns at → IsRobustAnswer cat work text

@@ -22,6 +22,7 @@ fn pivot_text(
     pivot: Places,
 ) -> Result<Vec<u8>, NoMemory>
     requires valid { IsValid catalogue.now work.now }
+    requires members { all.now ≡ members_of catalogue.now work.now.txns (database_of catalogue.now work.now.rows) }
     requires pivot { IsPivotOf catalogue.now work.now.txns (database_of catalogue.now work.now.rows) pivot }
     ensures { IfOk result (λ text. IsRobustAnswer catalogue.now work.now text.items) }
 {

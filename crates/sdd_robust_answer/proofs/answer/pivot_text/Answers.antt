@@ -1,6 +1,7 @@
 use Rattle.std.proofs.Common.{ap, ◌∙◌}
 use Rattle.std.proofs.lemmas.Result.{IfOk-weaker}
 use Rattle.sdd_robust.proofs.Workloads.{rows_fit, txns_fit}
+use Rattle.sdd_robust_answer.proofs.Explained.{are_explained}
 use Rattle.sdd_robust_answer.specs.Answers.{unknown_text}
 use Rattle.sdd_robust_answer.specs.Answers.IsRobustAnswer.{not_robust, unknown}
 use Rattle.sdd_short_runs.specs.ShortRuns.{lent_txns}
@@ -23,5 +24,7 @@ returns-in-Some c =
 pub returns-in-None : goal.returns-in-None
 returns-in-None c =
     IfOk-weaker c.unknown.result _ _
-    (λ text spelled. unknown c.args.pivot c.requires.pivot (spelled ∙ ap (λ txns. unknown_text txns c.args.pivot) c.as_slice-txns.ensures))
+    (λ text spelled. unknown c.args.pivot c.requires.pivot
+    (are_explained c.args.catalogue.now c.args.work.now _ _ _ c.as_slice-rows.ensures c.as_slice-txns.ensures c.requires.members
+    (rw c.in-None.is at c.in_ok-short.ensures.none)) (spelled ∙ ap (λ txns. unknown_text txns c.args.pivot) c.as_slice-txns.ensures))
     c.unknown.ensures
