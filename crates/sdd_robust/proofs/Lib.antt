@@ -1,6 +1,8 @@
 pub mod Flooding
 pub mod Steps
 pub mod Pivots
+pub mod PlaceSets
+pub mod Rests
 pub mod StandingFor
 pub mod KeyRanges
 pub mod AccessLists

@@ -1,7 +1,7 @@
 -- Pivots: by which accesses, and by which transactions.
-use Rattle.std.specs.Prelude.{Bool, ◌≡◌, ◌&&◌, true, not, List, Contains}
+use Rattle.std.specs.Prelude.{Bool, ◌≡◌, ◌&&◌, true, not, List, Contains, filter}
 use Rattle.std.specs.List.{list_any}
-use Rattle.sdd_robust_laws.specs.Accesses.{are_of_one_row, changes_for, reads_from}
+use Rattle.sdd_robust_laws.specs.Accesses.{are_apart, are_of_one_row, changes_for, reads_from}
 use Rattle.sdd_robust_laws.specs.Shown.{IsDangerous}
 use Rattle.sdd_robust_laws.specs.declared.access.Access.{Access}
 use Rattle.sdd_robust.specs.Leading.{Leads}
@@ -11,6 +11,10 @@ use Rattle.sdd_robust.specs.declared.member.Member.{Member}
 -- whether a transaction may read what the pivot changes, where it isn't one row with what the pivot reads by an access
 abbrev pub may_miss : List Access → List Access → Access → Bool
 may_miss other pivot read = list_any (λ change. changes_for change other && not (are_of_one_row read change)) pivot
+
+-- those of the members that may run while the pivot does, and both commit
+abbrev pub beside : List Access → List Member → List Member
+beside pivot members = filter (λ m. not (are_apart pivot m.accesses)) members
 
 -- the pivot may miss by this access what c changes, conflicts lead from c to a, and a may miss what the pivot changes
 pub record Closes (through : List (List Access)) (pivot : List Access) (read : Access) (c a : List Access) : Type 0 where

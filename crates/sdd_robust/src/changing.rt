@@ -107,7 +107,7 @@ impl<'a> Changes<'a> {
 
     /// Whether the transaction may miss, by this access, what another one changes that may run while
     /// it does, and both commit.
-    fn misses_by(&self, pivot: &[Access], read: &Access) -> bool
+    pub fn misses_by(&self, pivot: &[Access], read: &Access) -> bool
         ensures { result ≡ misses_by self.now pivot.now read.now }
     {
         read.reads && one_is_missed(pivot, read, self.list(read.rel))

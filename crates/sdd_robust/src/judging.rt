@@ -50,8 +50,9 @@ pub fn members(
 /// the same accesses only the first counts for the rest: for each access time in the changes of its
 /// relation, and for each two transactions of which one may miss a change of the other time in the accesses
 /// of both. For a transaction that may miss a change and of which a change may be missed it costs for each
-/// access time in all accesses; and where the two differ, for each of those that it may miss once more what
-/// it costs to follow conflicts, which is up to the accesses of each two transactions.
+/// access time in all accesses, and for each other transaction a step for each 64 of them, to follow
+/// conflicts. With which transactions one conflicts is found once, where that is asked for: it costs for
+/// each two transactions up to the accesses of both. Takes memory of a bit for each two transactions.
 pub fn find_pivot(
     alloc: Global,
     catalogue: &Catalogue,

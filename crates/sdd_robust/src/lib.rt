@@ -12,6 +12,7 @@
 mod accessing;
 mod changing;
 mod columns;
+mod conflicts;
 mod judging;
 mod key_range;
 mod linked;
@@ -20,6 +21,7 @@ mod meanwhile;
 mod meeting;
 mod member;
 mod pivot;
+mod place_set;
 mod same;
 mod staying;
 

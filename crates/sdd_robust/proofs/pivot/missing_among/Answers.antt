@@ -4,7 +4,7 @@ use Rattle.sdd_robust.specs.Pivots.{may_miss}
 use Rattle.sdd_robust.specs.declared.member.Member.{Member}
 use Rattle.sdd_robust.proofs.Pivots.{none_missing}
 use Rattle.sdd_robust.proofs.Steps.{each_more, lent_at, lent_long, lent_there}
-use Rattle.sdd_robust.proofs.pivot.missing_from.Goals as goal
+use Rattle.sdd_robust.proofs.pivot.missing_among.Goals as goal
 
 pub others-preserved : goal.others-preserved
 others-preserved c =
