@@ -1,6 +1,6 @@
 use crate::listed::Listed;
 use crate::no_memory::NoMemory;
-use crate::number::{DmNo, TmNo, TxnNo};
+use crate::number::{TmNo, TxnNo};
 use crate::parcel::Parcel;
 use crate::site::Site;
 
@@ -23,10 +23,10 @@ pub enum Event {
     Settle,
     /// Rounds are carried out until the world is quiet, and then the next class list is in force.
     Redeclare,
-    /// A data module goes down: its messages are kept for it.
-    Down(DmNo),
-    /// A data module comes up: the messages that were kept are handed to it.
-    Up(DmNo),
+    /// A module goes down, of data or of transactions: its messages are kept for it.
+    Down(Site),
+    /// A module comes up: the messages that were kept are handed to it.
+    Up(Site),
 }
 
 /// A schedule.

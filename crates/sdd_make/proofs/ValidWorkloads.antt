@@ -15,8 +15,8 @@ events_of_n seed n =
 no_lists : AreValidLists bank []
 no_lists = record { classes = All-nil (IsValidClass bank); names = refl; few_classes = omega arith; few_lists = omega arith }
 
-timely : (seed n : ℕ) → AreTimely bank.dms 0 (events_of (turns_of seed n) ++ Settle ∷ [])
-timely seed n = timely_without bank.dms 0 (events_of (turns_of seed n) ++ Settle ∷ [])
+timely : (seed n : ℕ) → AreTimely bank 0 (events_of (turns_of seed n) ++ Settle ∷ [])
+timely seed n = timely_without bank 0 (events_of (turns_of seed n) ++ Settle ∷ [])
     (All-append IsNoRedeclare (events_of (turns_of seed n)) (Settle ∷ []) (no_redeclare n 1 seed) (All-cons IsNoRedeclare Settle [] refl (All-nil IsNoRedeclare)))
 
 pub workload_valid : (seed n : ℕ) → n ≤ MAX_TXNS → IsValid bank (workload_of seed n)

@@ -24,7 +24,7 @@ pub use Rattle.sdd_script.specs.FirstWords.{class_key_in, event_key_in, inner_ke
 pub use Rattle.sdd_script.specs.Laws.{ReadsAgain, ReadsSpelling}
 pub use Rattle.sdd_script.specs.LineRules.{closed, done_rules, end_rules, event_rules, is_submitted, keyword_rules, line_rules, one_more_row, row_rules, statement_limits, statement_rules, txn_rules, with_statement, with_submitted, words_rules, written_with}
 pub use Rattle.sdd_script.specs.Naming.{class_names, column_named, columns_of, fragment_named, key_of, kind_of_place, name_of, name_of_class, name_of_relation, relation_named, relation_of}
-pub use Rattle.sdd_script.specs.Occurrences.{count_of, data_module_of, dm_of, down_of, event_of, flight_place, from_one, link_of, module_of, number_named, numbered, redeclare_of, resend_of, settle_of, site_in, site_of, submit_of, tick_of, tm_of, txn_named, up_of}
+pub use Rattle.sdd_script.specs.Occurrences.{any_module_of, count_of, data_module_of, dm_of, down_of, event_of, flight_place, from_one, link_of, module_of, number_named, numbered, redeclare_of, resend_of, settle_of, site_in, site_of, submit_of, tick_of, tm_of, turning_of, txn_named, up_of}
 pub use Rattle.sdd_script.specs.OpenLists.{class_so_far, classes_in, no_classes, reads_in, takes_reads as takes_reads_in, takes_writes as takes_writes_in, with_class, with_read, with_write, writes_in}
 pub use Rattle.sdd_script.specs.Places.{is_ended, open_list, reads_at, takes_classes, takes_events, takes_lists, takes_reads, takes_rows, takes_statements, takes_txns, takes_writes, writes_at}
 pub use Rattle.sdd_script.specs.ReadResults.{Tells}
@@ -32,7 +32,7 @@ pub use Rattle.sdd_script.specs.Redeclaring.{is_down, is_redeclare, may_follow, 
 pub use Rattle.sdd_script.specs.Rules.{rule_in}
 pub use Rattle.sdd_script.specs.Spelling.{assign_words, class_bytes, class_lines, class_words, column_word, condition_words, conditions_words, count_word, done_words, end_words, ended, event_words, header_words, lines_of, list_bytes, list_lines, list_words, name_of_column, name_of_txn, own_column, reads_words, relation_word, row_words, sets_words, site_word, spelling, start_words, statement_words, txn_bytes, txn_lines, where_words, writes_words}
 pub use Rattle.sdd_script.specs.Statements.{add_of, addend_of, assign_of, delete_of, listed_column, part_in, put_of, query_of, query_of_parts, statement_of, to_of, update_of}
-pub use Rattle.sdd_script.specs.Valid.{Accepts, AreDistinct, AreTimely, AreValidLists, AssignsValue, HoldsValue, HoldsValues, IsFragment, IsLink, IsSite, IsValid, IsValidClass, IsValidEvent, IsValidRead, IsValidRow, IsValidTxn, IsValue, MayRedeclare, is_kept_at, is_put, read_names, rows_put_by, submitted_by}
+pub use Rattle.sdd_script.specs.Valid.{Accepts, AreDistinct, AreTimely, AreValidLists, AssignsValue, HoldsValue, HoldsValues, IsFragment, IsLink, IsModule, IsSite, IsValid, IsValidClass, IsValidEvent, IsValidRead, IsValidRow, IsValidTxn, IsValue, MayRedeclare, is_kept_at, is_put, read_names, rows_put_by, submitted_by}
 pub use Rattle.sdd_script.specs.Values.{is_of_kind, row_of, value_of, values_of}
 pub use Rattle.sdd_script.specs.Walk.{at_line, nothing_read, one_line, tail_rules, walk_bytes, workload, workload_of_state}
 pub use Rattle.sdd_script.specs.declared.fault.LineError.{LineError}

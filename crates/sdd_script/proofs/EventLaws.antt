@@ -1,5 +1,5 @@
 -- Events: what is read is spelled and is there, and what is spelled and is there is read.
-use Rattle.sdd_script.proofs.All.{BadEvent, Bool, Catalogue, D, DmNo, Down, Event, HasNoNewline, HasNoSpace, IsAscii-cons, IsAscii-nil, IsFrom1To, IsLink, IsPlain, IsSite, IsUtf8, IsUtf8-append, IsUtf8-from_ascii, List, MAX_PLACE, MAX_TICKS, None, Ok, Option, Plain, Quoted, Redeclare, Resend, Settle, Site, Some, T, Tick, TmNo, U, Up, Word, [], ap, are_linked, arith, bind_ok, both_hold, cond, count_of, count_word, data_module_of, decimal, dm_of, down_of, eqb-true, flight_place, from_one, is_free, length, link_of, lt-ltb, module_of, nat_le, nat_lt, negsuc, number_again, number_of, number_takes, numbered, ok_is, pos, redeclare_of, refl, require_ok, resend_of, settle_of, site_in, site_of, site_word, subst, tick_of, tm_of, true, up_of, ℕ, ℤ, ◌&&◌, ◌<◌, ◌==◌, ◌^◌, ◌∙◌, ◌∷◌, ◌≡◌, ◌≢◌}
+use Rattle.sdd_script.proofs.All.{BadEvent, Bool, Catalogue, D, DmNo, Down, Event, HasNoNewline, HasNoSpace, IsAscii-cons, IsAscii-nil, IsFrom1To, IsLink, IsModule, IsPlain, IsSite, IsUtf8, IsUtf8-append, IsUtf8-from_ascii, List, MAX_PLACE, MAX_TICKS, None, Ok, Option, Plain, Quoted, Redeclare, Resend, Settle, Site, Some, T, Tick, TmNo, U, Up, Word, [], any_module_of, ap, are_linked, arith, bind_ok, both_hold, cond, count_of, count_word, data_module_of, decimal, dm_of, down_of, eqb-true, flight_place, from_one, is_free, length, link_of, lt-ltb, module_of, nat_le, nat_lt, negsuc, number_again, number_of, number_takes, numbered, ok_is, pos, redeclare_of, refl, require_ok, resend_of, settle_of, site_in, site_of, site_word, subst, tick_of, tm_of, true, turning_of, up_of, ℕ, ℤ, ◌&&◌, ◌<◌, ◌==◌, ◌^◌, ◌∙◌, ◌∷◌, ◌≡◌, ◌≢◌}
 use Rattle.sdd_script.proofs.StepLaws.{must_then, of_le}
 use Rattle.sdd_script.proofs.WordLooks.{IsFine, count_fine, count_free}
 use Rattle.sdd_script.proofs.UseLaws.{IsKnown}
@@ -202,21 +202,50 @@ settle_takes words e h = grind arith
 pub redeclare_takes : (words : List Word) (e : Event) → redeclare_of words ≡ Ok e → (words ≡ []) × (Redeclare ≡ e)
 redeclare_takes words e h = grind arith
 
--- a data module goes down or comes up
-pub record IsTurn (turn : DmNo → Event) (cat : Catalogue) (words : List Word) (e : Event) : Type 0 where
-  pub dm : DmNo
-  pub there : IsFrom1To cat.dms dm.0
-  pub spelled : words ≡ site_word (D dm) ∷ []
-  pub is : turn dm ≡ e
+-- a module that may go down, by a word
+any_module_takes : (cat : Catalogue) (w : Word) (at site : Site) → IsSiteWord cat w site → any_module_of site ≡ Ok at
+    → (w ≡ site_word at) × IsModule cat at
+any_module_takes cat w at U h e = cc
+any_module_takes cat w at (T tm) h e =
+    subst (λ z. (w ≡ site_word z) × IsModule cat z) (ok_is (T tm) at e) (h.spelled, h.there)
+any_module_takes cat w at (D dm) h e =
+    subst (λ z. (w ≡ site_word z) × IsModule cat z) (ok_is (D dm) at e) (h.spelled, h.there)
+
+turning_takes : (cat : Catalogue) (w : Word) (at : Site) → turning_of cat w ≡ Ok at → (w ≡ site_word at) × IsModule cat at
+turning_takes cat w at h =
+    let a = bind_ok (site_of cat w) _ at h in
+    any_module_takes cat w at a.0 (site_takes cat w a.0 a.1) a.2
+
+turning_again : (cat : Catalogue) → IsKnown cat → (at : Site) → IsModule cat at → turning_of cat (site_word at) ≡ Ok at
+turning_again cat k (T tm) h = let e = site_again cat k (T tm) h in rw e refl
+turning_again cat k (D dm) h = let e = site_again cat k (D dm) h in rw e refl
+turning_again cat k U h = absurd h
+
+-- a module goes down or comes up
+pub record IsTurn (turn : Site → Event) (cat : Catalogue) (words : List Word) (e : Event) : Type 0 where
+  pub at : Site
+  pub there : IsModule cat at
+  pub spelled : words ≡ site_word at ∷ []
+  pub is : turn at ≡ e
 
 pub down_takes : (cat : Catalogue) (words : List Word) (e : Event) → down_of cat words ≡ Ok e → IsTurn Down cat words e
-down_takes cat words e h = grind (arith, must_then, bind_ok, dm_takes, ok_is)
+down_takes cat (named ∷ []) e h =
+    let a = must_then _ (is_free named) _ e h in
+    let b = bind_ok (turning_of cat named) _ e a.1 in
+    let t = turning_takes cat named b.0 b.1 in
+    record { at = b.0; there = t.1; spelled = ap (λ w. w ∷ []) t.0; is = ok_is (Down b.0) e b.2 }
+down_takes cat _ e h = absurd cc
 
-pub down_again : (cat : Catalogue) → IsKnown cat → (dm : DmNo) → IsFrom1To cat.dms dm.0 → down_of cat (site_word (D dm) ∷ []) ≡ Ok (Down dm)
-down_again cat k dm h = let a = dm_again cat k dm h in rw a refl
+pub down_again : (cat : Catalogue) → IsKnown cat → (at : Site) → IsModule cat at → down_of cat (site_word at ∷ []) ≡ Ok (Down at)
+down_again cat k at h = grind (arith, turning_again, is_free)
 
 pub up_takes : (cat : Catalogue) (words : List Word) (e : Event) → up_of cat words ≡ Ok e → IsTurn Up cat words e
-up_takes cat words e h = grind (arith, must_then, bind_ok, dm_takes, ok_is)
+up_takes cat (named ∷ []) e h =
+    let a = must_then _ (is_free named) _ e h in
+    let b = bind_ok (turning_of cat named) _ e a.1 in
+    let t = turning_takes cat named b.0 b.1 in
+    record { at = b.0; there = t.1; spelled = ap (λ w. w ∷ []) t.0; is = ok_is (Up b.0) e b.2 }
+up_takes cat _ e h = absurd cc
 
-pub up_again : (cat : Catalogue) → IsKnown cat → (dm : DmNo) → IsFrom1To cat.dms dm.0 → up_of cat (site_word (D dm) ∷ []) ≡ Ok (Up dm)
-up_again cat k dm h = let a = dm_again cat k dm h in rw a refl
+pub up_again : (cat : Catalogue) → IsKnown cat → (at : Site) → IsModule cat at → up_of cat (site_word at ∷ []) ≡ Ok (Up at)
+up_again cat k at h = grind (arith, turning_again, is_free)

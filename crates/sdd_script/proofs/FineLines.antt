@@ -1,5 +1,5 @@
 -- The words of the lines of a valid workload are words, texts, and hold no newline.
-use Rattle.sdd_script.proofs.All.{Add, AllByRecursion, Assign, AssignsValue, Bool, Catalogue, ClassPart, Condition, Const, D, Delete, Deliver, Down, Event, EventKey, FitsAssign, FitsCondition, FitsRef, FitsStatement, HoldsValue, HoldsValues, IsAscii, IsAscii-cons, IsAscii-nil, IsFragment, IsFrom1To, IsLink, IsName, IsRelation, IsUtf8-from_ascii, IsValidEvent, IsValidRead, IsValidRow, IsValidTxn, IsValue, Keyword, List, Lose, MAX_PLACE, Op, Plain, Put, Query, ReadPart, Redeclare, Ref, RelNo, Repeat, Resend, Same, Settle, Site, Stmt, Submit, T, Tick, To, Txn, Up, Update, Value, Word, [], arith, both_hold, class_words, codes, column_word, conditions_words, count_word, dm_no, drop, event_words, false, header_words, length, list_all, ltb-true, map, name_of_relation, name_of_txn, nat_lt, not, op_word, own_column, reads_words, recursion_from_All, refl, relation_word, sets_words, site_word, start_words, statement_words, tm_no, true, where_words, writes_words, ℕ, ◌&&◌, ◌++◌, ◌<◌, ◌==◌, ◌∷◌, ◌≡◌}
+use Rattle.sdd_script.proofs.All.{Add, AllByRecursion, Assign, AssignsValue, Bool, Catalogue, ClassPart, Condition, Const, D, Delete, Deliver, Down, Event, EventKey, FitsAssign, FitsCondition, FitsRef, FitsStatement, HoldsValue, HoldsValues, IsAscii, IsAscii-cons, IsAscii-nil, IsFragment, IsFrom1To, IsLink, IsModule, IsName, IsRelation, IsSite, IsUtf8-from_ascii, IsValidEvent, IsValidRead, IsValidRow, IsValidTxn, IsValue, Keyword, List, Lose, MAX_PLACE, Op, Plain, Put, Query, ReadPart, Redeclare, Ref, RelNo, Repeat, Resend, Same, Settle, Site, Stmt, Submit, T, Tick, To, Txn, U, Up, Update, Value, Word, [], arith, both_hold, class_words, codes, column_word, conditions_words, count_word, dm_no, drop, event_words, false, header_words, length, list_all, ltb-true, map, name_of_relation, name_of_txn, nat_lt, not, op_word, own_column, reads_words, recursion_from_All, refl, relation_word, sets_words, site_word, start_words, statement_words, tm_no, true, where_words, writes_words, ℕ, ◌&&◌, ◌++◌, ◌<◌, ◌==◌, ◌∷◌, ◌≡◌}
 use Rattle.sdd_script.proofs.WordLooks.{not_it, no_newlines, no_spaces, IsFine, name_fine, number_fine, value_fine}
 use Rattle.sdd_script.proofs.UseLaws.{IsKnown}
 use Rattle.sdd_script.proofs.RefLaws.{AreParts, column_word_is}
@@ -161,8 +161,8 @@ event_key (Resend from to) = ekeys.Resend
 event_key (Tick tm n) = ekeys.Tick
 event_key Settle = ekeys.Settle
 event_key Redeclare = ekeys.Redeclare
-event_key (Down dm) = ekeys.Down
-event_key (Up dm) = ekeys.Up
+event_key (Down at) = ekeys.Down
+event_key (Up at) = ekeys.Up
 
 abbrev pub behind_key : List Txn → Event → List Word
 behind_key txns e = drop 1 (event_words txns e)
@@ -175,6 +175,12 @@ flight_fine : (cat : Catalogue) → IsKnown cat → (from to : Site) (place : �
     → AreFine (site_word from ∷ site_word to ∷ count_word place ∷ [])
 flight_fine cat k from to place h p = (site_fine cat k from h.0, (site_fine cat k to h.1, (place_fine place p, tt)))
 
+-- a module that may go down is a site
+module_is_site : (cat : Catalogue) (at : Site) → IsModule cat at → IsSite cat at
+module_is_site cat U h = absurd h
+module_is_site cat (T tm) h = h
+module_is_site cat (D dm) h = h
+
 pub behind_fine : (cat : Catalogue) → IsKnown cat → (txns : List Txn) (e : Event)
     → IsValidEvent cat (length txns) e → NamesOne txns e → AreFine (behind_key txns e)
 behind_fine cat k txns (Submit txn) h n = (n, tt)
@@ -183,8 +189,8 @@ behind_fine cat k txns (Lose from to place) h n = flight_fine cat k from to plac
 behind_fine cat k txns (Repeat from to place) h n = flight_fine cat k from to place h.0 h.1
 behind_fine cat k txns (Resend from to) h n = (site_fine cat k from h.0, (site_fine cat k to h.1, tt))
 behind_fine cat k txns (Tick tm n) h m = (site_fine cat k (T tm) h.0, (place_fine n h.1, tt))
-behind_fine cat k txns (Down dm) h n = (site_fine cat k (D dm) h, tt)
-behind_fine cat k txns (Up dm) h n = (site_fine cat k (D dm) h, tt)
+behind_fine cat k txns (Down at) h n = (site_fine cat k at (module_is_site cat at h), tt)
+behind_fine cat k txns (Up at) h n = (site_fine cat k at (module_is_site cat at h), tt)
 behind_fine cat k txns _ h n = tt
 
 -- ---- class lists

@@ -1,5 +1,5 @@
 -- Events of which none is a `redeclare` stand where they may, whatever the lists.
-use Rattle.sdd_script.proofs.All.{All, AllByRecursion, AreTimely, Event, List, Redeclare, Some, [], false, is_redeclare, recursion_from_All, slice_get, subst, suc, zero, ℕ, ◌∷◌, ◌≡◌}
+use Rattle.sdd_script.proofs.All.{All, AllByRecursion, AreTimely, Catalogue, Event, List, Redeclare, Some, [], false, is_redeclare, recursion_from_All, slice_get, subst, suc, zero, ℕ, ◌∷◌, ◌≡◌}
 use Rattle.sdd_script.proofs.StepLaws.{some_is}
 
 -- an event that is no `redeclare`, by cases
@@ -11,6 +11,6 @@ item_of P [] h i x e = absurd cc
 item_of P (y ∷ xs) h zero x e = subst P (some_is y x e) h.0
 item_of P (y ∷ xs) h (suc i) x e = item_of P xs h.1 i x e
 
-pub timely_without : (dms lists : ℕ) (es : List Event) → All IsNoRedeclare es → AreTimely dms lists es
-timely_without dms lists es h i is = let none : is_redeclare Redeclare ≡ false =
+pub timely_without : (cat : Catalogue) (lists : ℕ) (es : List Event) → All IsNoRedeclare es → AreTimely cat lists es
+timely_without cat lists es h i is = let none : is_redeclare Redeclare ≡ false =
     item_of IsNoRedeclare es (recursion_from_All IsNoRedeclare es h) i Redeclare is in absurd cc

@@ -101,9 +101,9 @@ event_is ekeys.Settle cat st words e s t h = grind (arith, settle_takes, is_even
 event_is ekeys.Redeclare cat st words e s t h =
     let r = redeclare_takes words e h in is_event cat st (codes "redeclare") words [] Redeclare e r.1 r.0 refl tt
 event_is ekeys.Down cat st words e s t h =
-    let r = down_takes cat words e h in is_event cat st (codes "down") words _ (Down r.dm) e r.is r.spelled refl r.there
+    let r = down_takes cat words e h in is_event cat st (codes "down") words _ (Down r.at) e r.is r.spelled refl r.there
 event_is ekeys.Up cat st words e s t h =
-    let r = up_takes cat words e h in is_event cat st (codes "up") words _ (Up r.dm) e r.is r.spelled refl r.there
+    let r = up_takes cat words e h in is_event cat st (codes "up") words _ (Up r.at) e r.is r.spelled refl r.there
 
 -- ---- a line
 

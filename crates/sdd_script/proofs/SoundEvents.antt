@@ -50,11 +50,11 @@ once_more submitted events e h d other = grind (arith, append-nil, filter_map-ap
 
 event_sound : (cat : Catalogue) (st : State) (e : Event) → Sound cat st → takes_events st.place ≡ true
     → IsValidEvent cat (length st.txns) e → is_submitted st.submitted e ≡ false
-    → may_follow cat.dms (length st.lists) st.events e ≡ true → length st.events < MAX_EVENTS
+    → may_follow cat (length st.lists) st.events e ≡ true → length st.events < MAX_EVENTS
     → Sound cat (with_occurrence st e)
 event_sound cat st e s t valid other may room =
     let d : Declares cat (joined st.lists ++ classes_in no_classes) st.classes = rw (none_open st.place t) at s.declares in
-    let m = timely_more cat.dms (length st.lists) st.events e s.timely may in
+    let m = timely_more cat (length st.lists) st.events e s.timely may in
     let a = all_more (IsValidEvent cat (length st.txns)) st.events e s.events valid in
     let o = once_more st.submitted st.events e s.submitted s.once other in
     let n = one_longer st.events e in
@@ -69,7 +69,7 @@ event_leads cat st to key words reading s read h =
     let a = must_then _ (takes_events st.place) _ to h in
     let b = bind_ok reading _ to a.1 in
     let e : Event = b.0 in
-    let may : Bool = may_follow cat.dms (length st.lists) st.events e in
+    let may : Bool = may_follow cat (length st.lists) st.events e in
     let c = must_then _ (not (is_submitted st.submitted e)) _ to b.2 in
     let m = must_then _ may _ to c.1 in
     let d = must_then _ (nat_lt (length st.events) MAX_EVENTS) _ to m.1 in

@@ -49,7 +49,7 @@ pub record Sound (cat : Catalogue) (st : State) : Type 0 where
   pub differ : repeats st.names ≡ false
   pub declares : Declares cat (all_classes st) st.classes
   pub few_lists : length st.lists + lists_open st.place ≤ MAX_LISTS
-  pub timely : AreTimely cat.dms (length st.lists) st.events
+  pub timely : AreTimely cat (length st.lists) st.events
   pub events : All (IsValidEvent cat (length st.txns)) st.events
   pub submitted : map (λ (t : TxnNo). t.0) st.submitted ≡ filter_map submitted_by st.events
   pub once : AreDistinct (filter_map submitted_by st.events)

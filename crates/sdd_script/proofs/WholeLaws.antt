@@ -73,7 +73,7 @@ still place t = grind arith
 record MayComeNext (cat : Catalogue) (place : Place) (lists : List (List ClassPart)) (submitted : List TxnNo) (events : List Event) (e : Event) : Type 0 where
   takes : takes_events place ≡ true
   new : is_submitted submitted e ≡ false
-  may : may_follow cat.dms (length lists) events e ≡ true
+  may : may_follow cat (length lists) events e ≡ true
   room : length events < MAX_EVENTS
 
 event_rules_again : (cat : Catalogue) (place : Place) (rows : List (RelNo × List Value)) (written : ℕ)
@@ -121,14 +121,14 @@ events_chain : (cat : Catalogue) → IsKnown cat → (rows : List (RelNo × List
     → repeats (names_of txns) ≡ false → (es : List Event) (place : Place) (submitted : List TxnNo) (events : List Event)
     → takes_events place ≡ true → AllByRecursion (IsValidEvent cat (length txns)) es
     → AreDistinct (numbers submitted ++ filter_map submitted_by es)
-    → length events + length es ≤ MAX_EVENTS → AreTimely cat.dms (length lists) (events ++ es)
+    → length events + length es ≤ MAX_EVENTS → AreTimely cat (length lists) (events ++ es)
     → AreEvents cat (scheduled place rows written txns lists classes submitted events)
     (map line_bytes (map (event_words txns) es)) rows written txns lists classes (events ++ es)
 events_chain cat k rows written txns lists classes valid differ [] place submitted events t h d few y = grind (arith, scheduled, append-nil)
 events_chain cat k rows written txns lists classes valid differ (e ∷ es) place submitted events t h d few y =
     let f = fresh submitted e es d in
     let one = event_step cat k place rows written txns lists classes submitted events e valid differ h.0
-    (record { takes = t; new = f.new; may = timely_may cat.dms (length lists) events e es y; room = omega (arith, few) }) in
+    (record { takes = t; new = f.new; may = timely_may cat (length lists) events e es y; room = omega (arith, few) }) in
     let joined_on : (events ++ e ∷ []) ++ es ≡ events ++ e ∷ es = append_assoc events (e ∷ []) es in
     let more = events_chain cat k rows written txns lists classes valid differ es places.Events
     (with_submitted submitted e) (events ++ e ∷ []) refl h.1 f.distinct (omega (arith, length-append events (e ∷ []))) (rw joined_on y) in

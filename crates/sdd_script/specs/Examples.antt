@@ -2,7 +2,7 @@
 use Rattle.std.specs.Prelude.{◌≡◌, ℕ, pos, negsuc, [], ◌∷◌, codes, Ok, Err, Result, refl}
 use Rattle.std.specs.Fmt.{digits}
 use Rattle.std.specs.Str.{is_utf8, chars}
-use Rattle.sdd_lang.specs.All.{Catalogue, Down, Int, Redeclare, Up, all_keys, dm_no, frag_no, rel_no, tm_no}
+use Rattle.sdd_lang.specs.All.{Catalogue, D, Down, Int, Redeclare, T, Up, all_keys, dm_no, frag_no, rel_no, tm_no}
 use Rattle.sdd_lang.specs.catalog.declared.parts.Kind.TheVariants as kinds
 use Rattle.sdd_words.specs.Lines.{cut_lines}
 use Rattle.sdd_words.specs.Number.{number_of}
@@ -195,15 +195,15 @@ two_classes = record {
       record { name = codes "m"; tm = 1; reads = record { fragment = codes "all"; at = 1 } ∷ []; writes = codes "all" ∷ [] } ∷
       record { name = codes "n"; tm = 1; reads = []; writes = [] } ∷ []
       ) ∷ [];
-  events = Down (dm_no 1) ∷ Up (dm_no 1) ∷ Redeclare ∷ [];
+  events = Down (T (tm_no 1)) ∷ Down (D (dm_no 1)) ∷ Up (D (dm_no 1)) ∷ Up (T (tm_no 1)) ∷ Redeclare ∷ [];
 }
 
-pub one_list : workload accounts (codes "list\nclass m T1\nreads all D1\nwrites all\nclass n T1\ndone\ndown D1\nup D1\nredeclare\nend\n") ≡ Ok two_classes
+pub one_list : workload accounts (codes "list\nclass m T1\nreads all D1\nwrites all\nclass n T1\ndone\ndown T1\ndown D1\nup D1\nup T1\nredeclare\nend\n") ≡ Ok two_classes
 unfolding walk cut_lines is_utf8 scan line_rules row_of query_over update_of_parts comparisons settings number_of digits chars lib.Utf8.encode
 one_list = refl
 
 -- and its spelling
-pub one_list_again : spelling accounts two_classes ≡ codes "list\nclass m T1\nreads all D1\nwrites all\nclass n T1\ndone\ndown D1\nup D1\nredeclare\nend\n"
+pub one_list_again : spelling accounts two_classes ≡ codes "list\nclass m T1\nreads all D1\nwrites all\nclass n T1\ndone\ndown T1\ndown D1\nup D1\nup T1\nredeclare\nend\n"
 unfolding digits
 one_list_again = refl
 

@@ -117,7 +117,7 @@ with_submitted submitted event = submitted
 abbrev pub with_event : Catalogue → State → Event → Result State WorkRule
 with_event cat st event = do
   _ ← must SubmittedTwice (not (is_submitted st.submitted event))
-  _ ← must BadEvent (may_follow cat.dms (length st.lists) st.events event)
+  _ ← must BadEvent (may_follow cat (length st.lists) st.events event)
   _ ← must (TooMany counts.Event) (nat_lt (length st.events) MAX_EVENTS)
   Ok (record st { place = places.Events; events = st.events ++ event ∷ []; submitted = with_submitted st.submitted event })
 

@@ -53,6 +53,16 @@ dm_of cat word = do
   site ← site_of cat word
   data_module_of site
 
+-- a module that may go down: a transaction module or a data module
+abbrev pub any_module_of : Site → Result Site WorkRule
+any_module_of U = Err BadEvent
+any_module_of site = Ok site
+
+abbrev pub turning_of : Catalogue → Word → Result Site WorkRule
+turning_of cat word = do
+  site ← site_of cat word
+  any_module_of site
+
 -- two sites with a link between them
 abbrev pub link_of : Catalogue → Word → Word → Result (Site × Site) WorkRule
 link_of cat from to = do
@@ -132,17 +142,17 @@ redeclare_of [] = Ok Redeclare
 redeclare_of _ = Err BadLine
 
 abbrev pub down_of : Catalogue → List Word → Result Event WorkRule
-down_of cat (dm ∷ []) = do
-  _ ← must BadLine (is_free dm)
-  d ← dm_of cat dm
-  Ok (Down d)
+down_of cat (named ∷ []) = do
+  _ ← must BadLine (is_free named)
+  at ← turning_of cat named
+  Ok (Down at)
 down_of cat _ = Err BadLine
 
 abbrev pub up_of : Catalogue → List Word → Result Event WorkRule
-up_of cat (dm ∷ []) = do
-  _ ← must BadLine (is_free dm)
-  d ← dm_of cat dm
-  Ok (Up d)
+up_of cat (named ∷ []) = do
+  _ ← must BadLine (is_free named)
+  at ← turning_of cat named
+  Ok (Up at)
 up_of cat _ = Err BadLine
 
 -- an event, by its first word and the words after it, where these are the names of the transactions

@@ -1,35 +1,37 @@
 -- Where a `redeclare` may stand: it puts the next class list in force, at all modules at once.
-use Rattle.std.specs.Prelude.{ℕ, ◌==◌, ◌&&◌, nat_lt, not, Bool, true, false, List, length, count_by, if◌then◌else◌}
+use Rattle.std.specs.Prelude.{ℕ, ◌==◌, ◌&&◌, ◌||◌, nat_lt, not, Bool, true, false, List, length, count_by, if◌then◌else◌}
 use Rattle.std.specs.List.{fold, list_any}
-use Rattle.sdd_lang.specs.All.{Down, Event, Redeclare, Up, numbers_to}
+use Rattle.sdd_lang.specs.All.{Catalogue, D, Down, Event, Redeclare, Site, T, Up, dm_no, numbers_to, tm_no}
+use Rattle.sdd_lang.specs.base.Sites.{same_site}
 use Rattle.sdd_script.specs.declared.workload.Workload.{Workload}
 
 abbrev pub is_redeclare : Event → Bool
 is_redeclare Redeclare = true
 is_redeclare event = false
 
--- a data module is down where the last `down` or `up` of it was a `down`
+-- a module is down where the last `down` or `up` of it was a `down`
 
-abbrev pub turned_by : ℕ → Event → Bool → Bool
-turned_by dm (Down m) down = if m.0 == dm then true else down
-turned_by dm (Up m) down = if m.0 == dm then false else down
-turned_by dm event down = down
+abbrev pub turned_by : Site → Event → Bool → Bool
+turned_by at (Down m) down = if same_site m at then true else down
+turned_by at (Up m) down = if same_site m at then false else down
+turned_by at event down = down
 
-abbrev pub is_down : ℕ → List Event → Bool
-is_down dm events = fold (λ down e. turned_by dm e down) false events
+abbrev pub is_down : Site → List Event → Bool
+is_down at events = fold (λ down e. turned_by at e down) false events
 
--- whether one of so many modules is down
-abbrev pub some_down : ℕ → List Event → Bool
-some_down dms events = list_any (λ dm. is_down dm events) (numbers_to dms)
+-- whether a transaction module or a data module of the catalogue is down
+abbrev pub some_down : Catalogue → List Event → Bool
+some_down cat events =
+    list_any (λ n. is_down (T (tm_no n)) events) (numbers_to cat.tms) || list_any (λ n. is_down (D (dm_no n)) events) (numbers_to cat.dms)
 
--- after these events, of so many data modules and lists: a list is left, and no module is down
-abbrev pub may_redeclare : ℕ → ℕ → List Event → Bool
-may_redeclare dms lists events = nat_lt (count_by is_redeclare events) lists && not (some_down dms events)
+-- after these events, with so many lists: a list is left, and no module is down
+abbrev pub may_redeclare : Catalogue → ℕ → List Event → Bool
+may_redeclare cat lists events = nat_lt (count_by is_redeclare events) lists && not (some_down cat events)
 
 -- whether an event may follow these
-abbrev pub may_follow : ℕ → ℕ → List Event → Event → Bool
-may_follow dms lists events Redeclare = may_redeclare dms lists events
-may_follow dms lists events event = true
+abbrev pub may_follow : Catalogue → ℕ → List Event → Event → Bool
+may_follow cat lists events Redeclare = may_redeclare cat lists events
+may_follow cat lists events event = true
 
 -- whether a workload has class lists
 abbrev pub has_lists : Workload → Bool

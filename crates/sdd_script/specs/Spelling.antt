@@ -92,8 +92,8 @@ event_words txns (Resend from to) = Plain (codes "resend") ∷ site_word from �
 event_words txns (Tick tm n) = Plain (codes "tick") ∷ site_word (T tm) ∷ count_word n ∷ []
 event_words txns Settle = Plain (codes "settle") ∷ []
 event_words txns Redeclare = Plain (codes "redeclare") ∷ []
-event_words txns (Down dm) = Plain (codes "down") ∷ site_word (D dm) ∷ []
-event_words txns (Up dm) = Plain (codes "up") ∷ site_word (D dm) ∷ []
+event_words txns (Down at) = Plain (codes "down") ∷ site_word at ∷ []
+event_words txns (Up at) = Plain (codes "up") ∷ site_word at ∷ []
 
 abbrev pub start_words : Catalogue → RelNo × List Value → List Word
 start_words cat r = Plain (codes "row") ∷ row_words cat r.0 r.1

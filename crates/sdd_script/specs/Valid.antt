@@ -57,6 +57,12 @@ IsSite cat U = Unit {0}
 IsSite cat (T tm) = IsFrom1To cat.tms tm.0
 IsSite cat (D dm) = IsFrom1To cat.dms dm.0
 
+-- a module that may go down: a transaction module or a data module, not U
+abbrev pub IsModule : Catalogue → Site → Type 0
+IsModule cat U = ⊥
+IsModule cat (T tm) = IsFrom1To cat.tms tm.0
+IsModule cat (D dm) = IsFrom1To cat.dms dm.0
+
 abbrev pub IsLink : Catalogue → Site → Site → Type 0
 IsLink cat from to = IsSite cat from × IsSite cat to × IsTrue (are_linked from to)
 
@@ -70,8 +76,8 @@ IsValidEvent cat txns (Resend from to) = IsLink cat from to
 IsValidEvent cat txns (Tick tm n) = IsFrom1To cat.tms tm.0 × IsFrom1To MAX_TICKS n
 IsValidEvent cat txns Settle = Unit {0}
 IsValidEvent cat txns Redeclare = Unit {0}
-IsValidEvent cat txns (Down dm) = IsFrom1To cat.dms dm.0
-IsValidEvent cat txns (Up dm) = IsFrom1To cat.dms dm.0
+IsValidEvent cat txns (Down at) = IsModule cat at
+IsValidEvent cat txns (Up at) = IsModule cat at
 
 -- a fragment that is there, by its name
 abbrev pub IsFragment : Catalogue → List ℕ → Type 0
@@ -109,14 +115,14 @@ pub record AreValidLists (cat : Catalogue) (lists : List (List ClassPart)) : Typ
   pub few_classes : length cat.classes + length (joined lists) ≤ MAX_CLASSES
   pub few_lists : length lists ≤ MAX_LISTS
 
--- after these events, of so many data modules and lists: a list is left, and no module is down
-pub record MayRedeclare (dms lists : ℕ) (events : List Event) : Type 0 where
+-- after these events, with so many lists: a list is left, and no module is down
+pub record MayRedeclare (cat : Catalogue) (lists : ℕ) (events : List Event) : Type 0 where
   pub left : count_by is_redeclare events < lists
-  pub up : (dm : ℕ) → IsFrom1To dms dm → is_down dm events ≡ false
+  pub up : (at : Site) → IsModule cat at → is_down at events ≡ false
 
 -- each `redeclare` stands where it may
-abbrev pub AreTimely : ℕ → ℕ → List Event → Type 0
-AreTimely dms lists events = (i : ℕ) → slice_get events i ≡ Some Redeclare → MayRedeclare dms lists (take i events)
+abbrev pub AreTimely : Catalogue → ℕ → List Event → Type 0
+AreTimely cat lists events = (i : ℕ) → slice_get events i ≡ Some Redeclare → MayRedeclare cat lists (take i events)
 
 abbrev pub is_put : Stmt → Bool
 is_put (statements.Put rel row) = true
@@ -144,7 +150,7 @@ pub record IsValid (cat : Catalogue) (w : Workload) : Type 0 where
   pub events : All (IsValidEvent cat (length w.txns)) w.events
   -- a transaction is submitted at most once
   pub submitted : AreDistinct (filter_map submitted_by w.events)
-  pub timely : AreTimely cat.dms (length w.lists) w.events
+  pub timely : AreTimely cat (length w.lists) w.events
   pub few_rows : length w.rows + sum_by rows_put_by w.txns ≤ MAX_ROWS
   pub few_txns : length w.txns ≤ MAX_TXNS
   pub few_events : length w.events ≤ MAX_EVENTS

@@ -2,7 +2,7 @@
 ghost use Rattle.std.specs.Prelude.{◌≡◌, ◌≤◌};
 ghost use Rattle.sdd_lang.specs.All.{GivesReading, are_linked};
 ghost use Rattle.sdd_script.specs.Rules.{rule_in};
-ghost use Rattle.sdd_script.specs.Occurrences.{numbered, site_in, site_of, module_of, tm_of, link_of, count_of, flight_place, deliver_of, lose_of, repeat_of, txn_named, submit_of, resend_of, tick_of, settle_of, redeclare_of, data_module_of, dm_of, down_of, up_of, event_of};
+ghost use Rattle.sdd_script.specs.Occurrences.{numbered, site_in, site_of, module_of, tm_of, link_of, count_of, flight_place, deliver_of, lose_of, repeat_of, txn_named, submit_of, resend_of, tick_of, settle_of, redeclare_of, data_module_of, dm_of, any_module_of, turning_of, down_of, up_of, event_of};
 ghost use Rattle.sdd_words.specs.Words.{Plain};
 
 use crate::fault::{LineError, WorkRule, must, refuse, require};
@@ -94,6 +94,22 @@ pub fn read_dm(catalogue: &Catalogue, word: &Token<'_>) -> Result<DmNo, LineErro
     ensures { GivesReading rule_in (λ d. d) result (dm_of catalogue.now word.now) }
 {
     data_module_of(read_site(catalogue, word)?)
+}
+
+fn any_module_of(site: Site) -> Result<Site, LineError>
+    ensures { GivesReading rule_in (λ s. s) result (any_module_of site) }
+{
+    match site {
+        Site::U => refuse(WorkRule::BadEvent),
+        _ => Ok(site),
+    }
+}
+
+/// The module that a word names: a transaction module or a data module.
+fn read_turning(catalogue: &Catalogue, word: &Token<'_>) -> Result<Site, LineError>
+    ensures { GivesReading rule_in (λ s. s) result (turning_of catalogue.now word.now) }
+{
+    any_module_of(read_site(catalogue, word)?)
 }
 
 fn are_linked(from: Site, to: Site) -> bool
@@ -257,10 +273,10 @@ fn read_down(catalogue: &Catalogue, words: &mut Tokens<'_>) -> Result<Event, Lin
     ensures { GivesReading rule_in (λ e. e) result (down_of catalogue.now words.old) }
 {
     match words.only_one() {
-        Some(dm) => {
-            must(WorkRule::BadLine, is_free(&dm))?;
-            let dm = read_dm(catalogue, &dm)?;
-            Ok(Event::Down(dm))
+        Some(module) => {
+            must(WorkRule::BadLine, is_free(&module))?;
+            let at = read_turning(catalogue, &module)?;
+            Ok(Event::Down(at))
         }
         None => refuse(WorkRule::BadLine),
     }
@@ -270,10 +286,10 @@ fn read_up(catalogue: &Catalogue, words: &mut Tokens<'_>) -> Result<Event, LineE
     ensures { GivesReading rule_in (λ e. e) result (up_of catalogue.now words.old) }
 {
     match words.only_one() {
-        Some(dm) => {
-            must(WorkRule::BadLine, is_free(&dm))?;
-            let dm = read_dm(catalogue, &dm)?;
-            Ok(Event::Up(dm))
+        Some(module) => {
+            must(WorkRule::BadLine, is_free(&module))?;
+            let at = read_turning(catalogue, &module)?;
+            Ok(Event::Up(at))
         }
         None => refuse(WorkRule::BadLine),
     }

@@ -274,14 +274,13 @@ fn put_tick(out: &mut Vec<u8>, tm: TmNo, n: u32) -> Result<(), NoMemory>
 }
 
 #[tactic(auto, using(crate::proofs::Pieces::key_one))]
-fn put_module(out: &mut Vec<u8>, key: &[u8], dm: DmNo) -> Result<(), NoMemory>
+fn put_module(out: &mut Vec<u8>, key: &[u8], at: Site) -> Result<(), NoMemory>
     ensures { OnOk result (
-        out.new.items ≡ out.old.items
-        ++ line_bytes (Plain key.now ∷ site_word (Site.D dm) ∷ [])
+        out.new.items ≡ out.old.items ++ line_bytes (Plain key.now ∷ site_word at ∷ [])
         ) }
 {
     put(out, key)?;
-    put_site(out, Site::D(dm))
+    put_site(out, at)
 }
 
 fn put_event_words(out: &mut Vec<u8>, txns: &[Txn], event: Event) -> Result<(), NoMemory>
@@ -296,8 +295,8 @@ fn put_event_words(out: &mut Vec<u8>, txns: &[Txn], event: Event) -> Result<(), 
         Event::Tick { tm, n } => put_tick(out, tm, n),
         Event::Settle => put(out, b"settle"),
         Event::Redeclare => put(out, b"redeclare"),
-        Event::Down(dm) => put_module(out, b"down", dm),
-        Event::Up(dm) => put_module(out, b"up", dm),
+        Event::Down(at) => put_module(out, b"down", at),
+        Event::Up(at) => put_module(out, b"up", at),
     }
 }
 
