@@ -8,7 +8,7 @@ pub use Rattle.sdd_base.specs.declared.event.Event.TheVariants.{Deliver, Resend}
 pub use Rattle.sdd_base.specs.declared.site.Site.{Site}
 pub use Rattle.sdd_base.specs.declared.site.Site.TheVariants.{D, T, U}
 pub use Rattle.sdd_net.specs.Links.{Call, Delivers, Link, Loses, Puts, Repeats, Resends, Way, after_call, arrives, deliver, delivered, delivery, due, given_by, handed, in_flight, is_quiet_link, link, lose, messages_of, newly_delivered, numbered, on_link, packet_at, put, quiet, repeat, resend, resends_now, round, turned, unacked, unused, with_ack, with_arrival, with_flight, with_packet, without_at, without_packet}
-pub use Rattle.sdd_net.specs.Mailboxes.{IsLowest, IsWithin, TakesFirst, TakesMessage, empty_mailbox, place_of, queue_at, total}
+pub use Rattle.sdd_net.specs.Mailboxes.{IsLowest, IsWithin, Mailbox, TakesFirst, TakesMessage, empty_boxes, empty_mailbox, place_of, total}
 pub use Rattle.sdd_net.specs.Nets.{ArePair, Changes, ChangesPair, ChannelsRepresent, Directions, Does, FitsWay, HasLink, IsLive, IsLiveAt, IsNet, Matches, Represents, channel_on, deliveries_on, in_flight_at, index_of, is_link, is_site, placed, quiet_on, resend_on, resends_at, sent_by, site_count, unused_channel}
 pub use Rattle.sdd_net.specs.Sending.{acknowledged, last_number}
 pub use Rattle.sdd_net.specs.Sound.{IsNumber, IsOf, IsSoundLink, IsSoundWay}

@@ -1,5 +1,5 @@
 -- A list that is joined of pieces: where an item of a piece stands, and what a change of a piece changes.
-use Rattle.sdd_net.proofs.All.{IfSome, IsSome, List, OnErr, OnSome, Option, Result, Some, [], ap, append-nil, append_assoc, arith, drop, flat_map, flat_map-append, get_before, get_or, length, length-append, nat_tests, refl, remove, remove-append_left, remove-append_right, replicate, replicate-append-replicate, slice_get, slice_get_read, slice_set, suc, sym, take, without_at, zero, ℕ, ◌++◌, ◌+◌, ◌-◌, ◌<◌, ◌∙◌, ◌∷◌, ◌≡◌}
+use Rattle.sdd_net.proofs.All.{IfSome, IsSome, List, OnErr, OnSome, Option, Result, Some, [], ap, append-nil, append_assoc, arith, drop, flat_map, flat_map-append, get_before, get_or, length, length-append, nat_tests, refl, remove, remove-append_left, remove-append_right, replicate, replicate-append-replicate, slice_get, slice_get_read, slice_set, suc, sym, take, without_at, zero, ℕ, ◌++◌, ◌+◌, ◌<◌, ◌∙◌, ◌∷◌, ◌≡◌}
 
 -- an item stands after the items before it
 get_behind : {A : Type 0} (before after : List A) (j : ℕ)

@@ -1,6 +1,5 @@
 -- The lists of a mailbox, of which one changes.
-use Rattle.sdd_net.proofs.All.{Bool, IsLowest, IsWithin, List, MatchOption, None, OnErr, Option, Result, Site, Some, TakesFirst, TakesMessage, [], ap, arith, empty_mailbox, false, get_or, get_or as slice_index_or, get_or-map, get_or-set_other, get_or-set_same, length, length-set, map, map-set, map-set_same, nat_tests, nil_from_length, option_to_list, place_of, queue_at, replicate, same_site, slice_set, suc, sym, total, true, ℕ, ◌++◌, ◌+◌, ◌<◌, ◌∙◌, ◌∷◌, ◌≡◌, ◌≤◌}
-use Rattle.sdd_net.specs.Mailboxes.{Puts}
+use Rattle.sdd_net.proofs.All.{Bool, IsLowest, IsTrue, IsWithin, List, Mailbox, MatchOption, None, OnErr, Option, Result, Site, Some, TakesFirst, TakesMessage, [], ap, arith, empty_boxes, empty_mailbox, false, get_or, get_or as slice_index_or, get_or-map, get_or-set_other, get_or-set_same, is_site, length, length-set, map, map-set, map-set_same, nat_tests, nil_from_length, option_to_list, place_of, replicate, slice_set, suc, sym, total, ℕ, ◌++◌, ◌+◌, ◌<◌, ◌∙◌, ◌∷◌, ◌≡◌, ◌≤◌}
 
 pub map_index : {A B : Type 0} (f : A → B) (xs : List A) (i : ℕ) (x : A) (d : B) → i < length xs → x ≡ get_or xs i x
     → slice_index_or (map f xs) i d ≡ f x
@@ -44,36 +43,30 @@ match_popped f xs ys i o h = grind (arith, nat_tests)
 
 -- the whole mailbox
 
-pub filled : {M : Type 0} (queues : List (List M)) (k n : ℕ) → queues ≡ replicate k [] → k ≤ n + 1 → n + 1 ≤ k
-    → record { down = false; queues = queues } ≡ empty_mailbox n
-filled queues k n e l m = let s : k ≡ suc n = omega (arith, l, m) in ap (λ qs. record { down = false; queues = qs }) (e ∙ ap (λ j. replicate j []) s)
+pub filled : {M : Type 0} (queues : List (List M)) (k tms dms : ℕ) → queues ≡ replicate k [] → k ≤ 1 + tms + dms → 1 + tms + dms ≤ k
+    → record { down = false; tms = tms; queues = queues } ≡ empty_mailbox tms dms
+filled queues k tms dms e l m =
+    let s : k ≡ suc (tms + dms) = omega (arith, l, m) in
+    ap (λ qs. record { down = false; tms = tms; queues = qs }) (e ∙ ap (λ j. replicate j []) s)
 
-some_is : (j k : ℕ) → ◌≡◌ {A = Option ℕ} (Some j) (Some k) → j ≡ k
-some_is j k e = cc
+pub all_empty : {M : Type 0} (boxes : List (Mailbox M)) (k tms dms : ℕ) → boxes ≡ replicate k (empty_mailbox tms dms) → k ≤ 1 + tms + dms
+    → 1 + tms + dms ≤ k → record { tms = tms; boxes = boxes } ≡ empty_boxes tms dms
+all_empty boxes k tms dms e l m =
+    let s : k ≡ suc (tms + dms) = omega (arith, l, m) in
+    ap (λ bs. record { tms = tms; boxes = bs }) (e ∙ ap (λ j. replicate j (empty_mailbox tms dms)) s)
 
--- two sites with one place are the same
-pub same_place : (x y : Site) (k : ℕ) → place_of x ≡ Some k → place_of y ≡ Some k → same_site x y ≡ true
-same_place x y k e f = grind (arith, nat_tests)
-
-pub puts : {M : Type 0} (down : Bool) (old new : List (List M)) (from : Site) (place : ℕ) (msg : M) → IsWithin (length old) (place_of from)
-    → ((k : ℕ) → place_of from ≡ Some k → place ≡ k)
-    → new ≡ slice_set old place (slice_index_or old place [] ++ msg ∷ [])
-    → Puts (record { down = down; queues = old }) (record { down = down; queues = new }) from msg
-puts {M = M} down old new from place msg h f e = grind (arith, slice_index_or, length-set, get_or-set_same, get_or-set_other, nat_tests)
+-- a site of the network has its place among as many as there are sites
+pub site_placed : (tms dms : ℕ) (x : Site) → IsTrue (is_site tms dms x) → IsWithin (suc (tms + dms)) (place_of tms x)
+site_placed tms dms x h = grind (arith, nat_tests)
 
 total_set : {M : Type 0} (queues : List (List M)) (i : ℕ) (item : M) (rest : List M) → i < length queues → slice_index_or queues i [] ≡ item ∷ rest
     → suc (total (slice_set queues i rest)) ≡ total queues
 total_set (q ∷ queues) (suc i) item rest l e = let n = total_set queues i item rest (omega arith) e in omega (arith, n)
 total_set _ _ item rest l e = grind (arith, nat_tests)
 
-pub takes : {M : Type 0} (down : Bool) (old new : List (List M)) (from : Site) (place : ℕ) (msg : M) → place_of from ≡ Some place
+pub takes : {M : Type 0} (down : Bool) (tms : ℕ) (old new : List (List M)) (from : Site) (place : ℕ) (msg : M) → place_of tms from ≡ Some place
     → TakesFirst old new place msg
-    → TakesMessage (record { down = down; queues = old }) (record { down = down; queues = new }) from msg × IsLowest (record { down = down; queues = old }) from
-takes {M = M} down old new from place msg at t = grind (arith, length-set, slice_index_or, get_or-set_same, total_set, get_or-set_other, nat_tests)
-
-pub nothing_kept : {M : Type 0} (queues : List (List M)) → ((j : ℕ) → slice_index_or queues j [] ≡ []) → (o : Option ℕ) → queue_at queues o ≡ []
-nothing_kept queues f o = grind (arith, nat_tests)
-
-pub beyond : {M : Type 0} (queues : List (List M)) (j : ℕ) → length queues ≤ j → slice_index_or queues j [] ≡ []
-beyond (q ∷ queues) (suc j) l = beyond queues j (omega arith)
-beyond _ _ l = grind (arith, nat_tests)
+    → TakesMessage (record { down = down; tms = tms; queues = old }) (record { down = down; tms = tms; queues = new }) from msg
+    × IsLowest (record { down = down; tms = tms; queues = old }) from
+takes {M = M} down tms old new from place msg at t =
+    grind (arith, length-set, slice_index_or, get_or-set_same, total_set, get_or-set_other, nat_tests)

@@ -1,27 +1,33 @@
--- What is kept for data modules that are down.
-use Rattle.std.specs.Prelude.{ℕ, zero, suc, ◌+◌, ◌-◌, ◌<◌, ◌≤◌, ◌≡◌, ◌≢◌, Bool, false, List, [], ◌∷◌, ◌++◌, length, replicate, slice_index_or, slice_set, Option, Some, None}
-use Rattle.sdd_base.specs.Sites.{same_site}
+-- What is kept for modules that are down.
+use Rattle.std.specs.Prelude.{ℕ, suc, ◌+◌, ◌<◌, ◌≡◌, nat_le, ◌&&◌, if◌then◌else◌, Bool, false, List, [], ◌∷◌, ◌++◌, length, map, replicate, slice_index_or, slice_set, Option, Some, None, refl}
+use Rattle.sdd_base.specs.Numbers.{tm_no, dm_no}
+use Rattle.sdd_base.specs.Sites.{same_site, sites}
 use Rattle.sdd_base.specs.declared.site.Site.{Site}
 use Rattle.sdd_base.specs.declared.site.Site.TheVariants.{U, T, D}
 
--- of one module: whether it is down, and the messages that are kept for it, one list for each sender: U, then each T
+-- of one module: whether it is down, how many transaction modules there are, and the messages that are kept for it, one
+-- list for each site as sender: U, then each T, then each D
 pub record Mailbox (M : Type 0) : Type 0 where
   pub down : Bool
+  pub tms : ℕ
   pub queues : List (List M)
 
-abbrev pub empty_mailbox : {M : Type 0} → ℕ → Mailbox M
-empty_mailbox tms = record { down = false; queues = replicate (suc tms) [] }
+-- of a module that is up, where there are so many transaction modules and data modules
+abbrev pub empty_mailbox : {M : Type 0} → ℕ → ℕ → Mailbox M
+empty_mailbox tms dms = record { down = false; tms = tms; queues = replicate (suc (tms + dms)) [] }
 
--- T modules count from 1
-abbrev pub number_of_t : ℕ → Option ℕ
-number_of_t zero = None
-number_of_t (suc k) = Some (suc k)
+-- The place of a site in the order of sites, where there are so many transaction modules. Modules count from 1.
+abbrev pub place_of : ℕ → Site → Option ℕ
+place_of tms U = Some 0
+place_of tms (T n) = if nat_le 1 n.0 && nat_le n.0 tms then Some n.0 else None
+place_of tms (D n) = if nat_le 1 n.0 then Some (tms + n.0) else None
 
--- the place of a sender's list; a data module is no sender
-abbrev pub place_of : Site → Option ℕ
-place_of U = Some 0
-place_of (T n) = number_of_t n.0
-place_of (D n) = None
+-- worked: the sites have their places in order, and a module that isn't there has none
+pub worked_places : map (place_of 2) (sites 2 1) ≡ Some 0 ∷ Some 1 ∷ Some 2 ∷ Some 3 ∷ []
+worked_places = refl
+
+pub worked_no_places : map (place_of 2) (T (tm_no 0) ∷ T (tm_no 3) ∷ D (dm_no 0) ∷ []) ≡ None ∷ None ∷ None ∷ []
+worked_no_places = refl
 
 abbrev pub queue_at : {M : Type 0} → List (List M) → Option ℕ → List M
 queue_at queues None = []
@@ -29,7 +35,7 @@ queue_at queues (Some k) = slice_index_or queues k []
 
 -- the messages of a site that are kept, in the order in which they were put
 abbrev pub kept_from : {M : Type 0} → Mailbox M → Site → List M
-kept_from b x = queue_at b.queues (place_of x)
+kept_from b x = queue_at b.queues (place_of b.tms x)
 
 abbrev pub IsWithin : ℕ → Option ℕ → Type 0
 IsWithin n None = ⊥
@@ -43,17 +49,40 @@ total (q ∷ queues) = length q + total queues
 abbrev pub kept_count : {M : Type 0} → Mailbox M → ℕ
 kept_count b = total b.queues
 
--- a sender of the mailbox: U or one of so many T
+-- a sender of the mailbox: a site that has a list there
 abbrev pub IsSender : {M : Type 0} → Mailbox M → Site → Type 0
-IsSender b x = IsWithin (length b.queues) (place_of x)
+IsSender b x = IsWithin (length b.queues) (place_of b.tms x)
 
--- the mailbox of a module, counted from 1
-abbrev pub mailbox_at : {M : Type 0} → List (Mailbox M) → ℕ → Mailbox M
-mailbox_at boxes d = slice_index_or boxes (d - 1) (record { down = false; queues = [] })
+-- Of all modules: how many transaction modules there are, and a mailbox for each site in the order of sites. U, which never
+-- goes down, has one, so that a site's mailbox has the same place as its lists in the mailboxes.
+pub record Boxes (M : Type 0) : Type 0 where
+  pub tms : ℕ
+  pub boxes : List (Mailbox M)
+
+-- nothing is kept, and all modules are up
+abbrev pub empty_boxes : {M : Type 0} → ℕ → ℕ → Boxes M
+empty_boxes tms dms = record { tms = tms; boxes = replicate (suc (tms + dms)) (empty_mailbox tms dms) }
+
+-- a mailbox that is not there
+abbrev pub no_mailbox : {M : Type 0} → Mailbox M
+no_mailbox = record { down = false; tms = 0; queues = [] }
+
+abbrev pub box_at : {M : Type 0} → List (Mailbox M) → Option ℕ → Mailbox M
+box_at boxes None = no_mailbox
+box_at boxes (Some k) = slice_index_or boxes k no_mailbox
+
+-- the mailbox of a site
+abbrev pub mailbox_at : {M : Type 0} → Boxes M → Site → Mailbox M
+mailbox_at s at = box_at s.boxes (place_of s.tms at)
+
+-- the site has a mailbox
+abbrev pub IsPlaced : {M : Type 0} → Boxes M → Site → Type 0
+IsPlaced s at = IsWithin (length s.boxes) (place_of s.tms at)
 
 -- a message is put after those of its sender
 pub record Puts {M : Type 0} (old new : Mailbox M) (from : Site) (msg : M) : Type 0 where
   pub down : new.down ≡ old.down
+  pub tms : new.tms ≡ old.tms
   pub count : length new.queues ≡ length old.queues
   pub here : kept_from new from ≡ kept_from old from ++ msg ∷ []
   pub others : (x : Site) → same_site x from ≡ false → kept_from new x ≡ kept_from old x
@@ -61,6 +90,7 @@ pub record Puts {M : Type 0} (old new : Mailbox M) (from : Site) (msg : M) : Typ
 -- the first message of a sender is taken
 pub record TakesMessage {M : Type 0} (old new : Mailbox M) (from : Site) (msg : M) : Type 0 where
   pub down : new.down ≡ old.down
+  pub tms : new.tms ≡ old.tms
   pub count : length new.queues ≡ length old.queues
   pub sender : IsSender old from
   pub here : kept_from old from ≡ msg ∷ kept_from new from
@@ -74,11 +104,13 @@ IsBefore j k = ⊥
 
 -- and no lower sender has one
 abbrev pub IsLowest : {M : Type 0} → Mailbox M → Site → Type 0
-IsLowest b from = (x : Site) → IsBefore (place_of x) (place_of from) → kept_from b x ≡ []
+IsLowest b from = (x : Site) → IsBefore (place_of b.tms x) (place_of b.tms from) → kept_from b x ≡ []
 
--- only the mailbox of one module changes
-abbrev pub OnlyAt : {M : Type 0} → List (Mailbox M) → List (Mailbox M) → ℕ → Type 0
-OnlyAt old new d = (e : ℕ) → 1 ≤ e → e ≢ d → mailbox_at new e ≡ mailbox_at old e
+-- only the mailbox of one site changes
+pub record OnlyAt {M : Type 0} (old new : Boxes M) (at : Site) : Type 0 where
+  pub tms : new.tms ≡ old.tms
+  pub count : length new.boxes ≡ length old.boxes
+  pub others : (x : Site) → same_site x at ≡ false → mailbox_at new x ≡ mailbox_at old x
 
 -- of some lists the first item of the first that isn't empty is taken
 pub record TakesFirst {M : Type 0} (old new : List (List M)) (place : ℕ) (item : M) : Type 0 where

@@ -1,6 +1,6 @@
 //! Links on which each message is numbered, acknowledged and delivered in order, whatever packets
-//! are lost, repeated and reordered; and spools, which keep the messages for a data module that is
-//! down: of each sender they are given back in the order in which they were put, those of the lowest
+//! are lost, repeated and reordered; and spools, which keep the messages for a module that is down:
+//! of each sender they are given back in the order in which they were put, those of the lowest
 //! sender first.
 #![tactic(auto)]
 

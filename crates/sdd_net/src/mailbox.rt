@@ -1,43 +1,47 @@
-ghost use Rattle.std.specs.Prelude.{◌≡◌, ◌+◌, ◌<◌, ◌≤◌, ℕ, List, [], ◌∷◌, ◌++◌, length, map, slice_index_or, slice_set, IfOk, OnErr, OnOk, MatchOption, true, Some};
+ghost use Rattle.std.specs.Prelude.{◌≡◌, ◌+◌, ◌<◌, ◌≤◌, ℕ, List, [], ◌∷◌, ◌++◌, length, map, slice_index_or, slice_set, IfOk, OnErr, OnOk, MatchOption, Some};
 ghost use Rattle.sdd_base.specs.declared.site.Site.{Site};
 ghost use Rattle.sdd_net.specs.Mailboxes.{empty_mailbox, kept_from, place_of, IsSender, Puts, TakesMessage, TakesFirst, IsLowest};
 
-use sdd_base::{MAX_TMS, NoMemory, Site, TmNo};
+use sdd_base::{DmNo, MAX_DMS, MAX_TMS, NoMemory, Site, TmNo};
 use std::alloc::Global;
 use std::collections::VecDeque;
 use std::marker::Model;
 
-/// What is kept for one data module.
+/// What is kept for one module.
 #[derive(Drop)]
 pub struct Mailbox<M> {
     pub down: bool,
+    tms: u32,
     queues: Vec<VecDeque<M>>,
 }
 
 impl<M> Model for Mailbox<M> {
-    ghost use Rattle.std.specs.Prelude.{map, length, suc, ◌≤◌};
-    ghost use Rattle.sdd_base.specs.declared.limits.TheConstants.{MAX_TMS};
+    ghost use Rattle.std.specs.Prelude.{map, length, suc, ◌+◌, ◌≤◌};
+    ghost use Rattle.sdd_base.specs.declared.limits.TheConstants.{MAX_TMS, MAX_DMS};
     ghost use Rattle.sdd_net.specs.Mailboxes.{Mailbox};
 
     ghost Value = { Mailbox M };
 
-    ghost view = { λ b. record { down = b.down; queues = map (λ q. q.items) b.queues.items } };
+    ghost view = { λ b. record { down = b.down; tms = b.tms; queues = map (λ q. q.items) b.queues.items } };
 
-    ghost invariant = { λ b. length b.queues.items ≤ suc MAX_TMS };
+    ghost invariant = { λ b. (b.tms ≤ MAX_TMS) × (length b.queues.items ≤ suc (b.tms + MAX_DMS)) };
 }
 
 impl<M: Drop> Mailbox<M> {
-    /// An empty mailbox of a module that is up, for messages of U and so many T.
-    pub fn new(alloc: Global, tms: u32) -> Result<Self, NoMemory>
-        requires { tms ≤ MAX_TMS }
-        ensures { IfOk result (λ b. b ≡ empty_mailbox tms) }
+    /// An empty mailbox of a module that is up, for messages of U and of so many transaction modules
+    /// and data modules.
+    pub fn new(alloc: Global, tms: u32, dms: u32) -> Result<Self, NoMemory>
+        requires tms { tms ≤ MAX_TMS }
+        requires dms { dms ≤ MAX_DMS }
+        ensures { IfOk result (λ b. b ≡ empty_mailbox tms dms) }
     {
         let mut queues = Vec::new(alloc);
-        for _ in 0..tms as usize + 1 {
+        for _ in 0..1 + tms as usize + dms as usize {
             queues.push(VecDeque::new(alloc))?;
         }
         Ok(Mailbox {
             down: false,
+            tms,
             queues,
         })
     }
@@ -48,7 +52,7 @@ impl<M: Drop> Mailbox<M> {
         ensures puts { OnOk result (Puts self.old self.new from msg) }
         ensures same { OnErr result (self.new ≡ self.old) }
     {
-        push_at(&mut self.queues, place_of(from), msg)
+        push_at(&mut self.queues, place_of(self.tms, from), msg)
     }
 
     /// How many messages of a sender there are.
@@ -56,7 +60,7 @@ impl<M: Drop> Mailbox<M> {
         requires { IsSender self.now from }
         ensures { result ≡ length (kept_from self.now from) }
     {
-        count_at(&self.queues, place_of(from))
+        count_at(&self.queues, place_of(self.tms, from))
     }
 
     /// Takes the first message of the lowest sender of whom there is one.
@@ -66,29 +70,34 @@ impl<M: Drop> Mailbox<M> {
             (λ (from, msg). TakesMessage self.old self.new from msg × IsLowest self.old from) }
     {
         let (place, msg) = pop_first(&mut self.queues)?;
-        Some((site_at(place), msg))
+        Some((site_at(self.tms, place), msg))
     }
 }
 
-/// The place of a sender's list.
-fn place_of(from: Site) -> usize
-    ensures { (k : ℕ) → place_of from ≡ Some k → result ≡ k }
+/// The place of a site in the order of sites.
+pub fn place_of(tms: u32, site: Site) -> usize
+    ensures { (k : ℕ) → place_of tms site ≡ Some k → result ≡ k }
 {
-    match from {
+    match site {
+        Site::U => 0,
         Site::T(tm) => tm.0 as usize,
-        _ => 0,
+        Site::D(dm) => tms as usize + dm.0 as usize,
     }
 }
 
-/// The sender whose list has a place.
-fn site_at(place: usize) -> Site
-    requires { place ≤ MAX_TMS }
-    ensures { place_of result ≡ Some place }
+/// The site that has a place.
+fn site_at(tms: u32, place: usize) -> Site
+    requires tms { tms ≤ MAX_TMS }
+    requires place { place ≤ tms + MAX_DMS }
+    ensures { place_of tms result ≡ Some place }
 {
     if place == 0 {
         return Site::U;
     }
-    Site::T(TmNo(place as u8))
+    if place <= tms as usize {
+        return Site::T(TmNo(place as u8));
+    }
+    Site::D(DmNo((place - tms as usize) as u8))
 }
 
 /// How many items one list has.

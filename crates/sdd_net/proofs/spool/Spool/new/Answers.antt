@@ -1,0 +1,5 @@
+use Rattle.sdd_net.proofs.Queues.{all_empty}
+use Rattle.sdd_net.proofs.spool.Spool.new.Goals as goal
+
+pub returns : goal.returns
+returns g c = all_empty c.loop.boxes.items c.loop.counter c.args.tms c.args.dms c.loop.invariant c.loop.auto.counter-end c.loop-test.false
