@@ -18,7 +18,7 @@ pub use Rattle.sdd_attempt.proofs.site_module.Does.{DoesMore, all_noted, does_fr
 pub use Rattle.sdd_attempt.proofs.site_module.Finding.{found_at, map_twice, one_of}
 pub use Rattle.sdd_attempt.proofs.site_module.Making.{made_more, made_nothing}
 pub use Rattle.sdd_attempt.proofs.site_module.lang.ReadSetDecides.{each_both as all_parts}
-pub use Rattle.sdd_attempt.specs.All.{Act, AllUpTo, AreEnough, AreEnoughAlong, AreTried, Ask, Attempt, Bases, Catalogue, ClassNo, Condition, D, Database, Delete, Did, Does, Entry, Era, Exchange, FitsAnswer, FitsCondition, FitsStatement, FitsTxn, FragNo, Handed, Has, Held, Hold, IsAwaited, IsDatabase, IsEntry, IsLineOf, IsOfHead, IsRelation, IsServed, IsSoundCatalogue, IsWaiting, IsWhole, Item, Kept, Line, Log, Msg, Notes, Null, Put, Query, Queued, Ready, Rec, Records, Redeclared, Reduced, Reject, RelNo, Release, Row, Rows, Sends, Serves, ServesAt, Setting, Site, Stmt, Submits, T, Ticked, Ticking, TmNo, Tuple, Txn, TxnNo, U, Update, Use, Values, active, active_after, active_handed, active_sent, after_hand, ascending, asks_rows, attempt_due, begins, bound_of, class_at, class_for, class_no, clock, commit_act, commit_next, contains, covers, current_era, dm_no, first_some, fragment_of, fragments_for, fragments_in, handed, hands, head_of, is_empty, is_for, line_after, line_done, line_step, modules_of, nothing_noted, numbers_to, or_else, or_standing, part_of, product, pushed, pushed_by, queue, queue_after, read_set, reads_at, records_of, rejects, rel_of, restrictions_of, rows_of, send_due, send_next, sends_of_act, sent, standing_among, standing_of, start_act, start_next, started, starts_left, statement_uses, submits, ticked, ticked_by, time_at, timestamp, tried, uses_from, uses_in, uses_of, with_act, with_due_act, work_of, write_set, writes}
+pub use Rattle.sdd_attempt.specs.All.{Act, AllUpTo, AreEnough, AreEnoughAlong, AreTried, Ask, Attempt, Bases, Catalogue, ClassNo, Condition, D, Database, Delete, Did, Does, Entry, Era, Exchange, FitsAnswer, FitsCondition, FitsSite, FitsStatement, FitsTxn, FragNo, Handed, Has, Held, Hold, IsAwaited, IsDatabase, IsEntry, IsLineOf, IsOfHead, IsRelation, IsServed, IsSoundCatalogue, IsWaiting, IsWhole, Item, Kept, Line, Log, Msg, Notes, Null, Put, Query, Queued, Ready, Rec, Records, Redeclared, Reduced, Reject, RelNo, Release, Row, Rows, Sends, Serves, ServesAt, Setting, Site, Stmt, Submits, T, Ticked, Ticking, TmNo, Tuple, Txn, TxnNo, U, Update, Use, Values, active, active_after, active_handed, active_sent, after_hand, ascending, asks_rows, attempt_due, begins, bound_of, class_at, class_for, class_no, clock, commit_act, commit_next, contains, covers, current_era, dm_no, first_some, fragment_of, fragments_for, fragments_in, handed, hands, head_of, is_empty, is_for, line_after, line_done, line_step, modules_of, nothing_noted, numbers_to, or_else, or_standing, part_of, product, pushed, pushed_by, queue, queue_after, read_set, reads_at, records_of, rejects, rel_of, restrictions_of, rows_of, send_due, send_next, sends_of_act, sent, standing_among, standing_of, start_act, start_next, started, starts_left, statement_uses, submits, ticked, ticked_by, time_at, timestamp, tried, uses_from, uses_in, uses_of, with_act, with_due_act, work_of, write_set, writes}
 pub use Rattle.sdd_attempt.specs.declared.standing.Standing.{Standing}
 pub use Rattle.sdd_attempt.specs.declared.standing.Standing.TheVariants.{Absent}
 pub use Rattle.sdd_attempt.specs.declared.step.LineStep.{LineStep}
@@ -28,8 +28,8 @@ pub use Rattle.sdd_eras.proofs.EraSets.{read_in_era, uses_in_era}
 pub use Rattle.sdd_eras.specs.EraOf.{IsEraOf}
 pub use Rattle.sdd_tm.specs.Due.{IsDue, by_ask, by_exchange, by_hold, by_start, due, exchange_due, held_due, next, null_at, null_due, null_time, null_to, start_due}
 pub use Rattle.sdd_tm.specs.Fits.{FitsSubmit, fits, fits_kind}
-pub use Rattle.sdd_tm.specs.Handing.{all_places, ask_handed, class_given, class_handed, class_named, hold_handed, one_place, owed_handed, place_of, push_of, state_given, state_handed, touched, touched_by, with_hold_message}
-pub use Rattle.sdd_tm.specs.Represents.{AreApart, AreOpen, AreSettled, InTurn, IsAmid, IsCalm, IsKept, IsSettingOf, IsSoundLog, Represents, Rise, all_starts}
+pub use Rattle.sdd_tm.specs.Handing.{all_places, ask_handed, class_given, class_handed, class_named, every_place, hold_handed, one_place, owed_handed, place_of, push_of, state_given, state_handed, touched, touched_by, with_hold_message}
+pub use Rattle.sdd_tm.specs.Represents.{AreApart, AreOpen, AreSettled, InTurn, IsAmid, IsCalm, IsKept, IsSettingOf, IsSoundLog, Queues, Represents, Rise, all_starts}
 pub use Rattle.sdd_tm.specs.State.{ClassState, State, asked, asks_of, class_of, state_of}
 pub use Rattle.sdd_tm.specs.Steps.{act_of, after_held, after_held_act, answer_time, answer_to, answers, asks_done, can_answer, class_done, class_step, held_of, is_idle, of_line, own_step, start_step, state_done, step_at, without_first}
 pub use Rattle.sdd_tm.specs.Views.{ClassView, HoldCounts, Question, View, after, asks, asks_acted, class_after, class_view, holds, holds_acted, holds_handed, on_hold, runs, view_of}

@@ -1,5 +1,5 @@
 -- What a call of a transaction module does, of every log for which the module stands.
-use Rattle.sdd_tm.proofs.All.{AreSettled, Bases, Catalogue, ClassState, Does, DoesMore, Era, FitsSubmit, FitsTxn, Handed, IsAmid, IsCalm, IsEraOf, IsKept, IsLineOf, IsTrue, IsWhole, Kept, List, Log, Msg, None, Notes, Places, Rec, Redeclared, RelNo, Represents, Row, Setting, Site, Some, State, Submit, Submits, T, Ticked, TmNo, Txn, TxnNo, Works, [], after_held, all_noted, ap, arith, bound_of, class_for, class_given, class_handed, class_step, classes_of, clock, current_era, does_from, false, first_class, first_state, fits, held_of, length, length-map, line_redeclared, line_ticked, map, next, nothing_noted, one_place, place_of, pushed, records_of, refl, rules, slice_get, stamped_still, state_given, state_handed, state_of, subst, suc, sym, ticked, touched, with_due_act, zero, ℕ, ◌<◌, ◌^◌, ◌∙◌, ◌∷◌, ◌≡◌}
+use Rattle.sdd_tm.proofs.All.{AreSettled, Bases, Catalogue, ClassState, Does, DoesMore, Era, FitsSubmit, FitsTxn, Handed, IsAmid, IsCalm, IsEraOf, IsKept, IsLineOf, IsTrue, IsWhole, Kept, List, Log, Msg, None, Notes, Places, Rec, Redeclared, RelNo, Represents, Row, Setting, Site, Some, State, Submit, Submits, T, Ticked, TmNo, Txn, TxnNo, Works, [], after_held, all_noted, ap, arith, class_for, class_given, class_handed, class_step, classes_of, current_era, does_from, false, first_class, first_state, fits, held_of, length, length-map, line_redeclared, line_ticked, map, next, nothing_noted, one_place, place_of, pushed, records_of, refl, rules, slice_get, stamped_still, state_given, state_handed, state_of, subst, suc, sym, ticked, touched, with_due_act, zero, ℕ, ◌<◌, ◌^◌, ◌∙◌, ◌∷◌, ◌≡◌}
 use Rattle.sdd_tm.proofs.Lists.{some_is}
 use Rattle.sdd_tm.proofs.Handing.{amid_handed}
 use Rattle.sdd_tm.proofs.Taking.{few_kept, apart_kept, fits_now}
@@ -25,7 +25,7 @@ represents_now : (new : Kept State) (s : Setting) (bases : Bases) (log : Log) �
 represents_now new s bases log live settled none amid =
     record { live = live; setting = amid.setting; sound = amid.sound; state_is = amid.state_is; settled = settled; held_sent = none }
 
-call_does : (taken : State) (new : Kept State) (old notes all : Notes) (s : Setting) (bases : Bases) (start : Log)
+pub call_does : (taken : State) (new : Kept State) (old notes all : Notes) (s : Setting) (bases : Bases) (start : Log)
     → IsTrue new.live → Called taken new.value old notes all → IsAmid s bases taken start → DoesMore (next s bases) start old all (Represents new s)
 call_does taken new old notes all s bases start live c amid =
     let r = called_works taken new.value old notes all c s bases start amid in
@@ -94,8 +94,8 @@ few_given k s log n txn taken st t =
     let same = ap (λ (x : State). length x.classes) t ∙ length-map k.value.classes (class_given (class_for k.value.era.catalogue txn) n txn) in
     omega arith
 
-pub calm_after : (k : Kept State) (s : Setting) (log : Log) (n : ℕ) (txn : Txn) (taken : State) (places : Places) → Represents k s log → taken ≡ given_to k n txn
-    → places ≡ one_place (place_of k.value.classes (class_for k.value.era.catalogue txn)) → IsCalm places.from places.end taken
+pub calm_after : (k : Kept State) (s : Setting) (log : Log) (n : ℕ) (txn : Txn) (taken : State) (places : Places) → Represents k s log
+    → taken ≡ given_to k n txn → places ≡ one_place (place_of k.value.classes (class_for k.value.era.catalogue txn)) → IsCalm places.from places.end taken
 calm_after k s log n txn taken places st t e =
     rw (t, e) (calm_given k.value (class_for k.value.era.catalogue txn) n txn st.settled (apart_kept s log k.value (kept_of k s log st)))
 
@@ -123,20 +123,29 @@ submit_does n txn old new taken notes all records sends small live t c e f s bas
 
 -- a tick
 
+pub kept_ticked : (s : Setting) (log : Log) (state : State) (n : ℕ) → IsKept s log state
+    → IsKept s (Ticked n ∷ log) (record state { clock = ticked state.clock n })
+kept_ticked s log state n kept = record {
+  setting = record { valid = kept.setting.valid; whole = kept.setting.whole; era = kept.setting.era };
+  sound = record {
+    lines = λ i c f. line_ticked s c log n (kept.sound.lines i c f);
+    stamped = stamped_still s log (Ticked n) refl kept.sound.stamped;
+    unanswered = record { rise = kept.sound.unanswered.rise; last = kept.sound.unanswered.last; apart = kept.sound.unanswered.apart };
+    turns = kept.sound.turns;
+  };
+  state_is = ap (λ (x : State). record x { clock = ticked x.clock n }) kept.state_is;
+}
+
 pub tick_represents : (old new : Kept State) (n : ℕ)
     → new ≡ record old { value = record old.value { clock = ticked old.value.clock n } } → (s : Setting) (log : Log)
     → Represents old s log → Represents new s (Ticked n ∷ log)
 tick_represents old new n e s log st =
+    let kept = kept_ticked s log old.value n (kept_of old s log st) in
     rw e (record {
       live = st.live;
-      setting = record { valid = st.setting.valid; whole = st.setting.whole; era = st.setting.era };
-      sound = record {
-        lines = λ i c f. line_ticked s c log n (st.sound.lines i c f);
-        stamped = stamped_still s log (Ticked n) refl st.sound.stamped;
-        unanswered = record { rise = st.sound.unanswered.rise; last = st.sound.unanswered.last; apart = st.sound.unanswered.apart };
-        turns = st.sound.turns;
-      };
-      state_is = ap (λ (x : State). record x { clock = ticked x.clock n }) st.state_is;
+      setting = kept.setting;
+      sound = kept.sound;
+      state_is = kept.state_is;
       settled = st.settled;
       held_sent = held_ticked old.value (ticked old.value.clock n) st.held_sent;
     })
@@ -180,24 +189,29 @@ new_represents k whole era tm live is valid counts of_whole s e f =
 
 -- a class list is put in force
 
+pub kept_redeclared : (s : Setting) (log : Log) (state : State) (era : Era) (t : ℕ) → IsKept s log state → IsEraOf s.catalogue era.catalogue
+    → IsKept s (Redeclared era t ∷ log) (record state { era = era; clock = pushed state.clock t })
+kept_redeclared s log state era t kept of_whole = record {
+  setting = record { valid = kept.setting.valid; whole = kept.setting.whole; era = of_whole };
+  sound = record {
+    lines = λ i c f. line_redeclared s c log era t (kept.sound.lines i c f);
+    stamped = stamped_still s log (Redeclared era t) refl kept.sound.stamped;
+    unanswered = record { rise = kept.sound.unanswered.rise; last = kept.sound.unanswered.last; apart = kept.sound.unanswered.apart };
+    turns = kept.sound.turns;
+  };
+  state_is = ap (λ (x : State). record x { era = era; clock = pushed x.clock t }) kept.state_is;
+}
+
 pub redeclared_represents : (old new : Kept State) (era : Era) (t : ℕ)
     → new ≡ record old { value = record old.value { era = era; clock = pushed old.value.clock t } }
     → (s : Setting) (log : Log) → Represents old s log → IsEraOf s.catalogue era.catalogue → Represents new s (Redeclared era t ∷ log)
 redeclared_represents old new era t e s log st of_whole =
+    let kept = kept_redeclared s log old.value era t (kept_of old s log st) of_whole in
     rw e (record {
       live = st.live;
-      setting = record { valid = st.setting.valid; whole = st.setting.whole; era = of_whole };
-      sound = record {
-        lines = λ i c f. line_redeclared s c log era t (st.sound.lines i c f);
-        stamped = stamped_still s log (Redeclared era t) refl st.sound.stamped;
-        unanswered = record { rise = st.sound.unanswered.rise; last = st.sound.unanswered.last; apart = st.sound.unanswered.apart };
-        turns = st.sound.turns;
-      };
-      state_is = ap (λ (x : State). record x { era = era; clock = pushed x.clock t }) st.state_is;
+      setting = kept.setting;
+      sound = kept.sound;
+      state_is = kept.state_is;
       settled = st.settled;
       held_sent = held_ticked old.value (pushed old.value.clock t) st.held_sent;
     })
-
--- the bound of the clock
-pub bound_is : (k : Kept State) (s : Setting) (log : Log) (n : ℕ) → n ≡ bound_of k.value.clock → Represents k s log → n ≡ bound_of (clock s.site log)
-bound_is k s log n e st = e ∙ ap (λ (x : State). bound_of x.clock) (sym st.state_is)

@@ -62,7 +62,7 @@ handed_unnamed st new from m e none =
 pub given_nowhere : (st : State) (c n : ℕ) (txn : Txn) → None ≡ place_of st.classes c → st ≡ state_given c n txn st
 given_nowhere st c n txn e = ap (λ cs. record st { classes = cs }) (sym (named_nowhere (class_given c n txn) st.classes c (given_other c n txn) (sym e)))
 
-abbrev with_given : ℕ → Txn → ClassState → ClassState
+abbrev pub with_given : ℕ → Txn → ClassState → ClassState
 with_given n txn k = record k { line = record k.line { queue = k.line.queue ++ record { number = n; text = txn; tries = 0 } ∷ [] } }
 
 pub given_somewhere : (st : State) (c n : ℕ) (txn : Txn) (place : ℕ) (run new : ClassState)

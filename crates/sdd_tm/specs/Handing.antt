@@ -79,9 +79,13 @@ abbrev pub one_place : Option ℕ → Places
 one_place None = no_places
 one_place (Some place) = record { from = place; end = place + 1 }
 
+-- of so many classes all
+abbrev pub every_place : ℕ → Places
+every_place n = record { from = 0; end = n }
+
 -- a RELEASE lets all classes start
 abbrev pub all_places : ℕ → Msg → Places
-all_places n (Release ts) = record { from = 0; end = n }
+all_places n (Release ts) = every_place n
 all_places n _ = no_places
 
 abbrev pub touched_by : List ClassState → Msg → Option ClassNo → Places

@@ -60,6 +60,16 @@ pub record Represents (k : Kept State) (s : Setting) (log : Log) : Type 0 where
   pub settled : AreSettled k.value
   pub held_sent : held_of k.value ≡ None
 
+-- The module keeps what follows from the log, and nothing of its own is due but to begin transactions that wait: so it
+-- stands while it is down, when transactions are given to it and nothing is handed to it.
+pub record Queues (k : Kept State) (s : Setting) (log : Log) : Type 0 where
+  pub live : IsTrue k.live
+  pub setting : IsSettingOf s log
+  pub sound : IsSoundLog s log
+  pub state_is : state_of s log ≡ k.value
+  pub only_starts : (place : ℕ) (c : ClassState) → slice_get k.value.classes place ≡ Some c → own_step c ≡ None
+  pub held_sent : held_of k.value ≡ None
+
 -- within a call
 
 -- how many transactions may start before the next message comes

@@ -2,7 +2,7 @@ ghost use Rattle.std.specs.Prelude.{◌≡◌, ◌≤◌, ◌<◌, ◌+◌, ◌/
 ghost use Rattle.std.specs.List.{list_all};
 ghost use Rattle.sdd_attempt.specs.All.{AreTried, Bases, IsAwaited, IsDatabase, Log, ServesAt, Setting, bound_of, nothing_noted, pushed, standing_among, ticked, with_due_act};
 ghost use Rattle.sdd_tm.specs.Fits.{fits, FitsSubmit};
-ghost use Rattle.sdd_tm.specs.Handing.{push_of, with_hold_message, class_handed, state_handed, state_given, class_named, place_of, one_place, all_places, touched};
+ghost use Rattle.sdd_tm.specs.Handing.{push_of, with_hold_message, class_handed, state_handed, state_given, class_named, place_of, one_place, every_place, all_places, touched};
 ghost use Rattle.sdd_tm.specs.State.{ClassState};
 ghost use Rattle.sdd_tm.specs.Represents.{AreApart, AreSettled, IsKept, IsAmid, IsCalm};
 ghost use Rattle.sdd_tm.specs.Steps.{is_idle, step_at, act_of, state_done, held_of, after_held};
@@ -249,16 +249,24 @@ impl<'a> Parts<'a> {
         }
     }
 
+    /// All classes.
+    pub(crate) fn every_place(&self) -> Places
+        requires { length self.now.classes < 2 ^ 32 }
+        ensures { result ≡ every_place (length self.now.classes) }
+    {
+        Places {
+            from: 0,
+            end: self.classes.len() as u32,
+        }
+    }
+
     /// All classes, where a message lets them start.
     fn all_places(&self, msg: &Msg) -> Places
         requires { length self.now.classes < 2 ^ 32 }
         ensures { result ≡ all_places (length self.now.classes) msg.now }
     {
         match msg {
-            Msg::Release { .. } => Places {
-                from: 0,
-                end: self.classes.len() as u32,
-            },
+            Msg::Release { .. } => self.every_place(),
             _ => Places { from: 0, end: 0 },
         }
     }

@@ -5,7 +5,7 @@ ghost use Rattle.sdd_eras.specs.EraOf.{IsEraOf};
 ghost use Rattle.sdd_tm.specs.Due.{next};
 ghost use Rattle.sdd_tm.specs.Fits.{fits, FitsSubmit};
 ghost use Rattle.sdd_tm.specs.State.{ClassState};
-ghost use Rattle.sdd_tm.specs.Represents.{Represents};
+ghost use Rattle.sdd_tm.specs.Represents.{Queues, Represents};
 
 use crate::class_run::ClassRun;
 use crate::parts::Parts;
@@ -117,13 +117,64 @@ impl<'a> TxnModule<'a> {
         Ok(draft.finish())
     }
 
-    /// Lets time pass. Takes no memory.
+    /// Takes a new transaction, whose class by the list in force is given, while the module is down:
+    /// it waits in its class, and nothing else is done. It returns the record of the submission. Out
+    /// of memory it takes nothing more.
+    pub fn queue_in_class(
+        &mut self,
+        number: TxnNo,
+        txn: &Txn,
+        class: ClassNo,
+    ) -> Result<Outcome, NoMemory>
+        requires lives { IsTrue self.old.live }
+        requires represents { (setting : Setting) × (bases : Bases) × (log : Log)
+            × Queues self.old setting log × FitsSubmit setting bases log number.0 txn.now
+            × (class.0 ≡ class_for (current_era setting log).catalogue txn.now) }
+        ensures law { IfOk result (λ outcome. (setting : Setting) (bases : Bases) (log : Log)
+            → Queues self.old setting log → FitsSubmit setting bases log number.0 txn.now
+            → (outcome.recs ≡ Submit number ∷ []) × (outcome.out ≡ [])
+            × Queues self.new setting (Submits number.0 txn.now ∷ log)) }
+        ensures lives_on { IfOk result (λ _. IsTrue self.new.live) }
+        ensures dies { OnErr result (¬ IsTrue self.new.live) }
+    {
+        self.live = false;
+        let mut draft = self.parts.draft();
+        draft.record(Rec::Submit(number))?;
+        self.parts.submit(number, txn, class)?;
+        self.live = true;
+        Ok(draft.finish())
+    }
+
+    /// The module came up: makes each act that is due, one after the other, until none is, and
+    /// returns what these send and record. Out of memory it takes nothing more.
+    pub fn resume(&mut self) -> Result<Outcome, NoMemory>
+        requires lives { IsTrue self.old.live }
+        requires represents { (setting : Setting) × (bases : Bases) × (log : Log)
+            × Queues self.old setting log × FitsSite setting bases log }
+        ensures law { IfOk result (λ outcome. (setting : Setting) (bases : Bases) (log : Log)
+            → Queues self.old setting log → FitsSite setting bases log
+            → Does (next setting bases) log outcome.recs outcome.out (Represents self.new setting)) }
+        ensures lives_on { IfOk result (λ _. IsTrue self.new.live) }
+        ensures dies { OnErr result (¬ IsTrue self.new.live) }
+    {
+        self.live = false;
+        let mut draft = self.parts.draft();
+        let places = self.parts.every_place();
+        self.parts.settle(places, &mut draft)?;
+        self.parts.tell_held(&mut draft)?;
+        self.live = true;
+        Ok(draft.finish())
+    }
+
+    /// Lets time pass, whether the module is down or not. Takes no memory.
     pub fn tick(&mut self, n: u32)
         requires lives { IsTrue self.old.live }
         requires represents { (setting : Setting) × (bases : Bases) × (log : Log)
-            × Represents self.old setting log × FitsSite setting bases log }
+            × Queues self.old setting log × FitsSite setting bases log }
         ensures law { (setting : Setting) (log : Log)
             → Represents self.old setting log → Represents self.new setting (Ticked n ∷ log) }
+        ensures queues { (setting : Setting) (log : Log)
+            → Queues self.old setting log → Queues self.new setting (Ticked n ∷ log) }
         ensures lives_on { IsTrue self.new.live }
     {
         self.parts.tick(n);
@@ -133,7 +184,7 @@ impl<'a> TxnModule<'a> {
     pub fn bound(&self) -> Ts
         requires { IsTrue self.now.live }
         ensures { (setting : Setting) (log : Log)
-            → Represents self.now setting log → result.0 ≡ bound_of (clock setting.site log) }
+            → Queues self.now setting log → result.0 ≡ bound_of (clock setting.site log) }
     {
         self.parts.bound()
     }
@@ -146,6 +197,10 @@ impl<'a> TxnModule<'a> {
         ensures law { (setting : Setting) (log : Log)
             → Represents self.old setting log → IsEraOf setting.catalogue catalogue.now
             → Represents self.new setting
+            (Redeclared (record { catalogue = catalogue.now; table = table.now }) t.0 ∷ log) }
+        ensures queues { (setting : Setting) (log : Log)
+            → Queues self.old setting log → IsEraOf setting.catalogue catalogue.now
+            → Queues self.new setting
             (Redeclared (record { catalogue = catalogue.now; table = table.now }) t.0 ∷ log) }
         ensures lives_on { IsTrue self.new.live }
     {
