@@ -1,5 +1,5 @@
 -- What a site's acts, one after the other, do to the log's recursions.
-use Rattle.sdd_log.proofs.All.{Act, AllLinked, Call, Does, EndsByLimit, Event, Input, IsLawful, IsWithin, List, Log, MAX_LINK_MESSAGES, Msg, Puts, Site, Some, [], ap, append-nil, append_assoc, arith, calls_of, false, handed, history, is_down, left, length, link, local_of, log_after, map, map-append, marks, nat_lt, next, or_assoc, or_false, puts, puts_past, records_of, records_of_act, refl, same_here, same_site, sends_of, sends_of_act, suc, sym, takes_part, true, ℕ, ◌++◌, ◌||◌, ◌∙◌, ◌∷◌, ◌≡◌}
+use Rattle.sdd_log.proofs.All.{Act, AllLinked, Call, Does, EndsByLimit, Event, Input, IsLawful, IsWithin, List, Log, MAX_LINK_MESSAGES, Msg, Puts, Site, Some, U, [], ap, append-nil, append_assoc, arith, calls_of, false, handed, history, is_down, left, length, link, local_of, log_after, map, map-append, marks, nat_lt, next, not, or_assoc, or_false, puts, puts_past, records_of, records_of_act, refl, same_here, same_site, sends_of, sends_of_act, suc, sym, takes_part, true, ℕ, ◌++◌, ◌||◌, ◌∙◌, ◌∷◌, ◌≡◌}
 use Rattle.sdd_log.proofs.Steps.{after_acts}
 
 pub puts-append : (at : Site) (xs ys : List (Site × Msg)) (calls : List (Call Msg)) → puts at (xs ++ ys) calls ≡ puts at ys (puts at xs calls)
@@ -84,9 +84,9 @@ linked_acts g at (a ∷ acts) log law l =
     AllLinked-append g at (sends_of_act a) (sends_of acts) (law log a k.1 k.0) (linked_acts g at acts (Does at a ∷ log) law l)
 
 -- an act is no mark
-pub is_down_acts : (d : ℕ) (at : Site) (acts : List Act) (log : Log) → is_down d (after_acts at acts log) ≡ is_down d log
-is_down_acts d at [] log = refl
-is_down_acts d at (a ∷ acts) log = is_down_acts d at acts (Does at a ∷ log)
+pub is_down_acts : (b at : Site) (acts : List Act) (log : Log) → is_down b (after_acts at acts log) ≡ is_down b log
+is_down_acts b at [] log = refl
+is_down_acts b at (a ∷ acts) log = is_down_acts b at acts (Does at a ∷ log)
 
 pub takes_part_acts : (b at : Site) (acts : List Act) (log : Log) → takes_part b (after_acts at acts log) ≡ takes_part b log
-takes_part_acts b at acts log = grind (arith, is_down_acts)
+takes_part_acts b at acts log = ap (λ down. same_site b U || not down) (is_down_acts b at acts log)

@@ -1,5 +1,5 @@
 -- At first nothing is due at any site.
-use Rattle.sdd_log.proofs.All.{Act, Bases, D, Era, Input, List, None, Option, Redeclared, Rests, Setting, Site, T, U, [], arith, beginning, does_at, first_nowhere, first_some, map, next, next_in, nth_era, refl, setting_of, site_due, ◌∷◌, ◌≡◌}
+use Rattle.sdd_log.proofs.All.{Act, Bases, Bool, D, Era, Input, List, None, Option, Redeclared, Rests, Setting, Site, T, U, [], arith, base_of, beginning, does_at, false, first_nowhere, first_some, if◌then◌else◌, map, next, next_at, next_in, nth_era, refl, setting_of, site_due, sites, takes_part, true, ◌∷◌, ◌≡◌}
 use Rattle.sdd_log.proofs.FirstHand.{none_to_hand}
 use Rattle.sdd_log.proofs.Ticking.{or_both}
 use Rattle.sdd_log.proofs.Completing.{next_is_mark}
@@ -32,7 +32,16 @@ does_none : (at : Site) (o : Option Act) → o ≡ None → does_at at o ≡ Non
 does_none at o e = grind arith
 
 none_at_first : (g : Input) → site_due g [] ≡ None
-none_at_first g = grind (arith, first_nowhere, does_none, none_here)
+none_at_first g =
+    first_nowhere (λ at. does_at at (next_at g [] at)) (sites g.catalogue.tms g.catalogue.dms)
+    (λ at. does_none at (next_at g [] at) (none_of at))
+  where
+    none_either : (part : Bool) (o : Option Act) → o ≡ None → (if part then o else None) ≡ None
+    none_either true o e = e
+    none_either false o e = refl
+
+    none_of : (at : Site) → next_at g [] at ≡ None
+    none_of at = none_either (takes_part at []) (next_in g at (base_of g []) (beginning g at)) (none_here g at (base_of g []))
 
 pub rests_at_first : (g : Input) → Rests g []
 rests_at_first g = record { lawful = tt; within = tt; no_mark = refl; no_site = none_at_first g; handed_all = λ a b p. refl }

@@ -21,12 +21,12 @@ module _ (g : Input) (a b : Site) (k : ℕ) (log : Log) (m : IsMarked g log (Del
   pub delivers_nothing : delivery k (link_of a b log) ≡ Nothing → Rests g (Notes ∷ Mark (Deliver a b k) ∷ log)
   delivers_nothing e =
       let t = by_nothing (packet_at k (link_of a b log)) k (link_of a b log) (newly_delivered (link_of a b log).there (deliver k (link_of a b log)).there) e in
-      rests_noted g log (Deliver a b k) m tt (ap note_if t.1) (handed_still log (Deliver a b k) tt (same_delivered a b k log t.0) m.rests.handed_all)
+      rests_noted g log (Deliver a b k) m tt (λ x part. part) (ap note_if t.1) (handed_still log (Deliver a b k) tt (same_delivered a b k log t.0) m.rests.handed_all)
 
   pub delivers_ack : delivery k (link_of a b log) ≡ Acked → Rests g (Mark (Deliver a b k) ∷ log)
   delivers_ack e =
       let t = by_acked (packet_at k (link_of a b log)) k (link_of a b log) (newly_delivered (link_of a b log).there (deliver k (link_of a b log)).there) e in
-      rests_marked g log (Deliver a b k) m (none_by_mark g log (Deliver a b k) tt m.rests.no_site) (ap note_if t.1)
+      rests_marked g log (Deliver a b k) m (none_by_mark g log (Deliver a b k) tt (λ x part. part) m.rests.no_site) (ap note_if t.1)
       (handed_still log (Deliver a b k) tt (same_delivered a b k log t.0) m.rests.handed_all)
 
 -- what holds of the members of two lists, by their places, holds of the two together
@@ -89,7 +89,7 @@ delivers_messages g a b k log messages m part e =
       lawful = (m.next_is, m.rests.lawful);
       within = (mark_within log (Deliver a b k) m.few, m.rests.within);
       no_mark = ap note_if t.1;
-      no_site = none_by_mark g log (Deliver a b k) tt m.rests.no_site;
+      no_site = none_by_mark g log (Deliver a b k) tt (λ x part. part) m.rests.no_site;
       part = part_marked b (Deliver a b k) log tt ∙ part;
       remain = λ x.
           elim (same_site x a) as (λ c. same_site x a ≡ c → Remain more x b (if c then messages else [])) [
@@ -105,7 +105,7 @@ pub delivers_kept : (g : Input) (a b : Site) (k : ℕ) (log : Log) (messages : L
     → delivery k (link_of a b log) ≡ Messages messages → Rests g (Mark (Deliver a b k) ∷ log)
 delivers_kept g a b k log messages m part e =
     let t = by_messages (packet_at k (link_of a b log)) (newly_delivered (link_of a b log).there (deliver k (link_of a b log)).there) messages e in
-    rests_marked g log (Deliver a b k) m (none_by_mark g log (Deliver a b k) tt m.rests.no_site) (ap note_if t.1)
+    rests_marked g log (Deliver a b k) m (none_by_mark g log (Deliver a b k) tt (λ x part. part) m.rests.no_site) (ap note_if t.1)
     (λ x y p.
     elim (same_site y b) as (λ c. same_site y b ≡ c → handed x y log ≡ delivered (link_of x y (Mark (Deliver a b k) ∷ log)).there) [
       | true ↦ λ q. let down : takes_part y log ≡ false = subst (λ z. takes_part z log ≡ false) (sym (same_is y b q)) part in let no : true ≡ false = sym p

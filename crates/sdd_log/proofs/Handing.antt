@@ -81,7 +81,7 @@ module _ (g : Input) (log : Log) (b : Site) (kept : Site → List Msg) (w : Wait
       → IsLawful g (after_acts b acts (Hand a b (suc (handed a b log)) m ∷ log))
   first_lawful acts due =
       let k = link_parts g.catalogue.tms g.catalogue.dms a b f.linked in
-      (hand_and_acts g a b (suc (handed a b log)) m acts log (listed g.catalogue.tms g.catalogue.dms b k.to) w.no_mark w.no_site first_due due w.lawful).0
+      (hand_and_acts g a b (suc (handed a b log)) m acts log (listed g.catalogue.tms g.catalogue.dms b k.to) w.part w.no_mark w.no_site first_due due w.lawful).0
 
   -- it is handed over, and its site does what is due
   pub hands_first : (acts : List Act) (less : Site → List Msg) → TakesAway kept less a rest
@@ -90,7 +90,7 @@ module _ (g : Input) (log : Log) (b : Site) (kept : Site → List Msg) (w : Wait
   hands_first acts less t due few =
       let n : ℕ = suc (handed a b log) in
       let k = link_parts g.catalogue.tms g.catalogue.dms a b f.linked in
-      let done = hand_and_acts g a b n m acts log (listed g.catalogue.tms g.catalogue.dms b k.to) w.no_mark w.no_site first_due due w.lawful in
+      let done = hand_and_acts g a b n m acts log (listed g.catalogue.tms g.catalogue.dms b k.to) w.part w.no_mark w.no_site first_due due w.lawful in
       record {
         lawful = done.0;
         within = within_acts b acts (Hand a b n m ∷ log) few (refl, w.within);

@@ -29,8 +29,8 @@ due_by g (Deliver a b k) log = note_if (is_none (packet_at k (link_of a b log)))
 due_by g (Lose a b k) log = note_if (is_none (packet_at k (link_of a b log)))
 due_by g (Repeat a b k) log = note_if (is_none (packet_at k (link_of a b log)))
 due_by g (Resend a b) log = note_if (is_empty (unacked (link_of a b log).there))
-due_by g (Down d) log = note_if (is_down d.0 log)
-due_by g (Up d) log = note_if (not (is_down d.0 log))
+due_by g (Down at) log = note_if (is_down at log)
+due_by g (Up at) log = note_if (not (is_down at log))
 due_by g _ log = None
 
 abbrev pub mark_due : Input → Log → Option Entry
@@ -44,8 +44,9 @@ next_in g U bases log = um.next (setting_of g U) bases log
 next_in g (T t) bases log = tm.next (setting_of g (T t)) bases log
 next_in g (D d) bases log = dm.next (setting_of g (D d)) bases log
 
+-- nothing, at a site that takes no part
 abbrev pub next_at : Input → Log → Site → Option Act
-next_at g log at = next_in g at (base_of g log) (local_of g at log)
+next_at g log at = if takes_part at log then next_in g at (base_of g log) (local_of g at log) else None
 
 abbrev pub does_at : Site → Option Act → Option Entry
 does_at at None = None

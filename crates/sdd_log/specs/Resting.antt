@@ -1,6 +1,6 @@
 -- Logs at rest, and what an event needs.
 use Rattle.std.specs.Prelude.{ℕ, zero, suc, ◌+◌, ◌≤◌, ◌≡◌, true, false, List, [], ◌∷◌, ◌++◌, if◌then◌else◌, length, slice_get, None, Some}
-use Rattle.sdd_attempt.specs.All.{D, Deliver, Down, Event, Lose, MAX_RUN_EVENTS, MAX_TICKS, Msg, Redeclare, Repeat, Resend, Settle, Site, Submit, T, Tick, Txn, Up, same_site, sites}
+use Rattle.sdd_attempt.specs.All.{D, Deliver, Down, Event, Lose, MAX_RUN_EVENTS, MAX_TICKS, Msg, Redeclare, Repeat, Resend, Settle, Site, Submit, T, Tick, Txn, U, Up, same_site, sites}
 use Rattle.sdd_net.specs.Links.{delivered}
 use Rattle.sdd_net.specs.Nets.{is_site, is_link}
 use Rattle.sdd_log.specs.Entries.{Input, Log, Mark, marks}
@@ -13,8 +13,8 @@ use Rattle.sdd_log.specs.Lawful.{IsLawful, IsWithin}
 abbrev pub AllHanded : Log → Type 0
 AllHanded log = (a b : Site) → takes_part b log ≡ true → handed a b log ≡ delivered (link_of a b log).there
 
--- At rest between two events: within the limits nothing but a mark is due. Packets may be in flight, and data modules
--- down: that the links are quiet as well is `IsStill` of sdd_progress, and that no module is down either its `IsQuiet`.
+-- At rest between two events: within the limits nothing but a mark is due. Packets may be in flight, and modules down:
+-- that the links are quiet as well is `IsStill` of sdd_progress, and that no module is down either its `IsQuiet`.
 pub record Rests (g : Input) (log : Log) : Type 0 where
   pub lawful : IsLawful g log
   pub within : IsWithin log
@@ -35,6 +35,11 @@ IsSiteOf g at = is_site g.catalogue.tms g.catalogue.dms at ≡ true
 abbrev pub IsLinkOf : Input → Site → Site → Type 0
 IsLinkOf g a b = is_link g.catalogue.tms g.catalogue.dms a b ≡ true
 
+-- a module that may go down: a transaction module or a data module, not U
+abbrev pub IsModuleOf : Input → Site → Type 0
+IsModuleOf g U = ⊥
+IsModuleOf g at = IsSiteOf g at
+
 -- what an event names exists, places count from 1, and a tick isn't too long; rounds are no single event
 abbrev pub IsPossible : Input → Event → Type 0
 IsPossible g (Submit n) = (txn : Txn) × (1 ≤ n.0) × (txn_at g n.0 ≡ Some txn)
@@ -43,8 +48,8 @@ IsPossible g (Lose a b k) = IsLinkOf g a b × (1 ≤ k)
 IsPossible g (Repeat a b k) = IsLinkOf g a b × (1 ≤ k)
 IsPossible g (Resend a b) = IsLinkOf g a b
 IsPossible g (Tick t n) = IsSiteOf g (T t) × (n ≤ MAX_TICKS)
-IsPossible g (Down d) = IsSiteOf g (D d)
-IsPossible g (Up d) = IsSiteOf g (D d)
+IsPossible g (Down at) = IsModuleOf g at
+IsPossible g (Up at) = IsModuleOf g at
 IsPossible g Settle = ⊥
 IsPossible g Redeclare = ⊥
 

@@ -1,5 +1,5 @@
 -- What is put on the links and handed over, as the log of everything gives it.
-use Rattle.std.specs.Prelude.{ℕ, ◌-◌, Bool, true, false, not, ◌&&◌, ◌==◌, if◌then◌else◌, List, [], ◌∷◌, slice_get, Option}
+use Rattle.std.specs.Prelude.{ℕ, ◌-◌, Bool, true, false, not, ◌&&◌, ◌||◌, if◌then◌else◌, List, [], ◌∷◌, slice_get, Option}
 use Rattle.sdd_attempt.specs.All.{D, Deliver, Down, Event, Lose, Msg, Repeat, Resend, Site, T, U, Up, links, same_site, sends_of_act}
 use Rattle.sdd_net.specs.Links.{Call, Puts, Delivers, Loses, Repeats, Resends, Link, link}
 use Rattle.sdd_log.specs.Entries.{Log, Mark, Hand, Does, Input}
@@ -45,19 +45,17 @@ handed a b (_ ∷ log) = handed a b log
 abbrev pub message_at : Site → Site → ℕ → Log → Option Msg
 message_at from to n log = slice_get (sent from to log) (n - 1)
 
--- a data module is down where the last `down` or `up` of it was a `down`
-abbrev pub turned_by : ℕ → Event → Bool → Bool
-turned_by d (Down m) down = if m.0 == d then true else down
-turned_by d (Up m) down = if m.0 == d then false else down
-turned_by d _ down = down
+-- a module is down where the last `down` or `up` of it was a `down`
+abbrev pub turned_by : Site → Event → Bool → Bool
+turned_by at (Down m) down = if same_site m at then true else down
+turned_by at (Up m) down = if same_site m at then false else down
+turned_by at _ down = down
 
-abbrev pub is_down : ℕ → Log → Bool
-is_down d [] = false
-is_down d (Mark e ∷ log) = turned_by d e (is_down d log)
-is_down d (_ ∷ log) = is_down d log
+abbrev pub is_down : Site → Log → Bool
+is_down at [] = false
+is_down at (Mark e ∷ log) = turned_by at e (is_down at log)
+is_down at (_ ∷ log) = is_down at log
 
--- whether messages are handed to the site: to a module that is down none are
+-- whether the site takes part, as U always does: to a module that is down nothing is handed, and it does nothing
 abbrev pub takes_part : Site → Log → Bool
-takes_part U log = true
-takes_part (T t) log = true
-takes_part (D d) log = not (is_down d.0 log)
+takes_part at log = same_site at U || not (is_down at log)

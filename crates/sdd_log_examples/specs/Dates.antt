@@ -58,10 +58,10 @@ input_of_deleted_and_put = record {
       Submit (txn_no 1) ∷
       Deliver (T (tm_no 2)) (D (dm_no 1)) 1 ∷
       Tick (tm_no 1) 2 ∷
-      Down (dm_no 2) ∷
+      Down (D (dm_no 2)) ∷
       Submit (txn_no 2) ∷
       Settle ∷
-      Up (dm_no 2) ∷
+      Up (D (dm_no 2)) ∷
       Tick (tm_no 3) 9 ∷
       Submit (txn_no 3) ∷
       Settle ∷

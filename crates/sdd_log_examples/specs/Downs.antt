@@ -39,10 +39,10 @@ input_of_down_and_up = record {
       [];
   events =
       Submit (txn_no 1) ∷
-      Down (dm_no 1) ∷
+      Down (D (dm_no 1)) ∷
       Deliver (T (tm_no 1)) (D (dm_no 1)) 1 ∷
       Deliver (D (dm_no 1)) (T (tm_no 1)) 1 ∷
-      Up (dm_no 1) ∷
+      Up (D (dm_no 1)) ∷
       [];
 }
 
@@ -95,7 +95,7 @@ input_of_stays_down = record {
       [];
   events =
       Submit (txn_no 1) ∷
-      Down (dm_no 1) ∷
+      Down (D (dm_no 1)) ∷
       Deliver (T (tm_no 1)) (D (dm_no 1)) 1 ∷
       Deliver (D (dm_no 1)) (T (tm_no 1)) 1 ∷
       [];
@@ -147,9 +147,9 @@ input_of_down_twice = record {
   txns =
       [];
   events =
-      Up (dm_no 1) ∷
-      Down (dm_no 1) ∷
-      Down (dm_no 1) ∷
+      Up (D (dm_no 1)) ∷
+      Down (D (dm_no 1)) ∷
+      Down (D (dm_no 1)) ∷
       [];
 }
 

@@ -51,10 +51,10 @@ input_of_from_two_senders = record {
   events =
       Submit (txn_no 1) ∷
       Submit (txn_no 2) ∷
-      Down (dm_no 1) ∷
+      Down (D (dm_no 1)) ∷
       Deliver (T (tm_no 2)) (D (dm_no 1)) 1 ∷
       Deliver (T (tm_no 1)) (D (dm_no 1)) 1 ∷
-      Up (dm_no 1) ∷
+      Up (D (dm_no 1)) ∷
       [];
 }
 

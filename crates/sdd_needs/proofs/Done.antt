@@ -1,10 +1,10 @@
 -- What is done of the events, as a lawful log tells it: which modules are down then, and how many lists were put in force.
-use Rattle.sdd_needs.proofs.All.{AllFewTicks, AtEach, Bool, Deliver, Down, Event, Input, IsLawful, List, Log, Lose, Mark, Redeclare, Redeclares, Repeat, Resend, Round, Settle, Some, Submit, Tick, TurnsNone, Up, [], after_mark, all_links, ap, append_assoc, arith, calls_of, down_from, each_of_round, false, from_event, is_down, is_down_after, left, mark_from, mark_is_next, mark_of, quiet, redeclares, redeclares_in, refl, round, subst, suc, sym, tail_of, true, turned_by, ℕ, ◌++◌, ◌+◌, ◌∙◌, ◌∷◌, ◌≡◌}
+use Rattle.sdd_needs.proofs.All.{AllFewTicks, AtEach, Bool, Deliver, Down, Event, Input, IsLawful, List, Log, Lose, Mark, Redeclare, Redeclares, Repeat, Resend, Round, Settle, Site, Some, Submit, Tick, TurnsNone, Up, [], after_mark, all_links, ap, append_assoc, arith, calls_of, down_from, each_of_round, false, from_event, is_down, is_down_after, left, mark_from, mark_is_next, mark_of, quiet, redeclares, redeclares_in, refl, round, subst, suc, sym, tail_of, true, turned_by, ℕ, ◌++◌, ◌+◌, ◌∙◌, ◌∷◌, ◌≡◌}
 use Rattle.sdd_needs.proofs.OfNext.{of_next}
 
 -- parts of lists of events
 
-pub down_join : (d : ℕ) (b : Bool) (xs ys : List Event) → down_from d b (xs ++ ys) ≡ down_from d (down_from d b xs) ys
+pub down_join : (d : Site) (b : Bool) (xs ys : List Event) → down_from d b (xs ++ ys) ≡ down_from d (down_from d b xs) ys
 down_join d b [] ys = refl
 down_join d b (x ∷ xs) ys = down_join d (turned_by d x b) xs ys
 
@@ -22,7 +22,7 @@ OnlySettles [] = Unit {0}
 OnlySettles (Settle ∷ es) = OnlySettles es
 OnlySettles (_ ∷ es) = ⊥
 
-pub settles_turn : (d : ℕ) (b : Bool) (es : List Event) → OnlySettles es → down_from d b es ≡ b
+pub settles_turn : (d : Site) (b : Bool) (es : List Event) → OnlySettles es → down_from d b es ≡ b
 settles_turn d b [] h = refl
 settles_turn d b (Settle ∷ es) h = settles_turn d b es h
 settles_turn d b (_ ∷ es) h = absurd h
@@ -69,13 +69,13 @@ listed_first g log _ r _ t h = absurd (cc)
 
 -- what is done
 
-pub record IsDoneAs (g : Input) (down : ℕ → Bool) (lists : ℕ) (rest : List Event) : Type 0 where
+pub record IsDoneAs (g : Input) (down : Site → Bool) (lists : ℕ) (rest : List Event) : Type 0 where
   pub front : List Event
   pub is : g.events ≡ front ++ rest
-  pub downs : (d : ℕ) → down d ≡ is_down_after d front
+  pub downs : (d : Site) → down d ≡ is_down_after d front
   pub lists_are : lists ≡ redeclares_in front
 
-one_more : (g : Input) (down : ℕ → Bool) (lists more total : ℕ) (ws : List Event) (e : Event) (s : IsSplit ws e) → IsDoneAs g down lists ws
+one_more : (g : Input) (down : Site → Bool) (lists more total : ℕ) (ws : List Event) (e : Event) (s : IsSplit ws e) → IsDoneAs g down lists ws
     → more ≡ redeclares_in (e ∷ []) → total ≡ more + lists → IsDoneAs g (λ d. turned_by d e (down d)) total s.rest
 one_more g down lists more total ws e s i n sum =
     let front : List Event = (i.front ++ s.skip) ++ e ∷ [] in
@@ -93,7 +93,7 @@ one_more g down lists more total ws e s i n sum =
 
 -- an event that turns no module
 
-abbrev pub AreDone : Input → (ℕ → Bool) → ℕ → List Event × List Event → Type 0
+abbrev pub AreDone : Input → (Site → Bool) → ℕ → List Event × List Event → Type 0
 AreDone g down lists s = AtEach TurnsNone s.1 × IsDoneAs g down lists s.0
 
 mark_done : (g : Input) (log : Log) (e : Event) (s : List Event × List Event) → mark_of g log s ≡ Some (Mark e)

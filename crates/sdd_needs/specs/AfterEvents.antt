@@ -3,6 +3,7 @@ use Rattle.std.specs.Prelude.{ℕ, suc, Bool, List, [], ◌∷◌, false}
 use Rattle.sdd_log.specs.base.declared.event.Event.{Event}
 use Rattle.sdd_log.specs.base.declared.event.Event.TheVariants.{Redeclare}
 use Rattle.sdd_log.specs.Traffic.{turned_by}
+use Rattle.sdd_log.specs.base.declared.site.Site.{Site}
 
 -- how many further class lists the events put in force
 abbrev pub redeclares_in : List Event → ℕ
@@ -10,10 +11,10 @@ redeclares_in [] = 0
 redeclares_in (Redeclare ∷ events) = suc (redeclares_in events)
 redeclares_in (_ ∷ events) = redeclares_in events
 
--- whether a data module is down after these events, before which it was so or not
-abbrev pub down_from : ℕ → Bool → List Event → Bool
-down_from d down [] = down
-down_from d down (e ∷ events) = down_from d (turned_by d e down) events
+-- whether a module is down after these events, before which it was so or not
+abbrev pub down_from : Site → Bool → List Event → Bool
+down_from at down [] = down
+down_from at down (e ∷ events) = down_from at (turned_by at e down) events
 
-abbrev pub is_down_after : ℕ → List Event → Bool
-is_down_after d events = down_from d false events
+abbrev pub is_down_after : Site → List Event → Bool
+is_down_after at events = down_from at false events

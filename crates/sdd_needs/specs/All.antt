@@ -3,6 +3,7 @@ pub use Rattle.sdd_needs.specs.AfterEvents.{redeclares_in}
 pub use Rattle.sdd_needs.specs.Fitting.{FitsEra, Fitting, FittingSubmit, fits, fits_at, fits_submit, fits_submit_at, fits_tick}
 pub use Rattle.sdd_needs.specs.Obligations.{IsGood, good_input}
 pub use Rattle.sdd_needs.specs.attempt.Clocks.{clock}
+pub use Rattle.sdd_needs.specs.attempt.Fits.{FitsSite}
 pub use Rattle.sdd_needs.specs.attempt.Standings.{standing_among}
 pub use Rattle.sdd_needs.specs.attempt.declared.standing.Standing.TheVariants.{Absent}
 pub use Rattle.sdd_needs.specs.attempt.declared.standing.Standing.{Standing}
@@ -42,18 +43,18 @@ pub use Rattle.sdd_needs.specs.lang.Classes.{class_for}
 pub use Rattle.sdd_needs.specs.lang.Database.{Row}
 pub use Rattle.sdd_needs.specs.lang.Fits.{FitsStart}
 pub use Rattle.sdd_needs.specs.lang.declared.transaction.Txn.{Txn}
-pub use Rattle.sdd_needs.specs.logs.Due.{due_by, next, next_in, note_if}
+pub use Rattle.sdd_needs.specs.logs.Due.{due_by, next, next_at, next_in, note_if}
 pub use Rattle.sdd_needs.specs.logs.Entries.{Does, Hand, Input, Log, Mark, Notes, Redeclares, Round, Submitted, history, marks, with_event}
 pub use Rattle.sdd_needs.specs.logs.Lawful.{EndsByLimit, IsLawful, puts_past}
 pub use Rattle.sdd_needs.specs.logs.Locals.{beginning, local_of, nth_era, redeclares, rows_of, setting_of, txn_at, with_era, with_submit}
 pub use Rattle.sdd_needs.specs.logs.Left.{after_mark, left}
 pub use Rattle.sdd_needs.specs.logs.Marks.{bound_at, greatest_bound}
-pub use Rattle.sdd_needs.specs.logs.Resting.{AllHanded, AllLinked, AtEach, EndsIn, IsFirst, IsLinkOf, IsMarked, IsPossible, IsSiteOf, Remain, Rests, TakesAway, TakesRounds, Waits, from_one, settles_before}
+pub use Rattle.sdd_needs.specs.logs.Resting.{AllHanded, AllLinked, AtEach, EndsIn, IsFirst, IsLinkOf, IsMarked, IsModuleOf, IsPossible, IsSiteOf, Remain, Rests, TakesAway, TakesRounds, Waits, from_one, settles_before}
 pub use Rattle.sdd_needs.specs.logs.Snapshots.{base_of}
 pub use Rattle.sdd_needs.specs.logs.Spelled.{call_as, delivered_as, link_as, packet_as}
 pub use Rattle.sdd_needs.specs.logs.Traffic.{all_links, calls_of, handed, is_down, link_of, puts, takes_part}
 pub use Rattle.sdd_needs.specs.net.Links.{Call, Delivers, Link, Loses, Puts, Repeats, Resends, arrives, deliver, delivered, delivery, given_by, in_flight, is_quiet_link, link, lose, newly_delivered, on_link, packet_at, quiet, repeat, resend, resends_now, round, turned, with_flight, with_packet, without_packet}
-pub use Rattle.sdd_needs.specs.net.Mailboxes.{IsBefore, IsLowest, IsSender, IsWithin, Mailbox, OnlyAt, empty_mailbox, kept_count, kept_from, mailbox_at, number_of_t, place_of, queue_at}
+pub use Rattle.sdd_needs.specs.net.Mailboxes.{Boxes, IsBefore, IsLowest, IsPlaced, IsSender, IsWithin, Mailbox, OnlyAt, empty_boxes, empty_mailbox, kept_count, kept_from, mailbox_at, place_of, queue_at}
 pub use Rattle.sdd_needs.specs.net.Nets.{Directions, HasLink, Represents, index_of, is_link, is_site, sent_on}
 pub use Rattle.sdd_needs.specs.net.declared.delivered.Delivered.TheVariants.{Acked, Messages}
 pub use Rattle.sdd_needs.specs.net.declared.delivered.Delivered.{Delivered}

@@ -7,8 +7,9 @@ use Rattle.sdd_log.specs.Locals.{local_of, nth_era, redeclares, setting_of, txn_
 use Rattle.sdd_log.specs.Permitted.{AreSubmittedOnce}
 use Rattle.sdd_log.specs.Resting.{AllLinked, IsSiteOf}
 use Rattle.sdd_log.specs.Snapshots.{base_of}
+use Rattle.sdd_log.specs.attempt.Fits.{FitsSite}
 use Rattle.sdd_log.specs.base.Numbers.{tm_no}
-use Rattle.sdd_log.specs.base.declared.event.Event.TheVariants.{Tick}
+use Rattle.sdd_log.specs.base.declared.event.Event.TheVariants.{Tick, Up}
 use Rattle.sdd_log.specs.base.declared.site.Site.{Site}
 use Rattle.sdd_log.specs.base.declared.site.Site.TheVariants.{T}
 use Rattle.sdd_log.specs.lang.declared.transaction.Txn.{Txn}
@@ -28,6 +29,8 @@ pub record Obligations : Type 0 where
   pub home : (g : Input) → IsGoodInput g → (log : Log) (at : Site) (n : ℕ) → IsLawful g log → next g log ≡ Some (Submitted at n) → IsSiteOf g at
   pub tick : (g : Input) → IsGoodInput g → (log : Log) (t n : ℕ) → IsLawful g log → IsWithin log → next g log ≡ Some (Mark (Tick (tm_no t) n))
       → fits_tick (T (tm_no t)) (setting_of g (T (tm_no t))) (local_of g (T (tm_no t)) log) n
+  pub resume : (g : Input) → IsGoodInput g → (log : Log) (at : Site) → IsLawful g log → IsWithin log → next g log ≡ Some (Mark (Up at))
+      → FitsSite (setting_of g at) (base_of g (Mark (Up at) ∷ log)) (local_of g at log)
   pub redeclare : (g : Input) → IsGoodInput g → (log : Log) (t : ℕ) → IsLawful g log → IsWithin log
       → next g log ≡ Some (Redeclares t)
       → FitsEra g.catalogue (nth_era g (suc (redeclares log))) t

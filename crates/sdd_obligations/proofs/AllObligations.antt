@@ -1,5 +1,5 @@
 -- All that the modules ask: what is next on a lawful log fits the module to which it goes.
-use Rattle.sdd_obligations.proofs.All.{Bool, D, DmNo, Entry, FitsEra, FitsSite, Hand, Input, IsGoodInput, IsLawful, IsRunnable, IsWithin, Log, Mark, Msg, Obligations, Redeclares, Site, Some, Submitted, T, Tick, TmNo, Txn, U, arith, base_of, clock, fits_submit, greatest_bound, height, if◌then◌else◌, lawful_permitted, local_of, next, nth_era, redeclares, setting_of, sound_whole, suc, tm_no, top, txn_at, ℕ, ◌/◌, ◌<◌, ◌^◌, ◌∷◌, ◌≡◌, ◌≤◌}
+use Rattle.sdd_obligations.proofs.All.{Bool, D, DmNo, Entry, FitsEra, FitsSite, Hand, Input, IsGoodInput, IsLawful, IsRunnable, IsWithin, Log, Mark, Msg, Obligations, Redeclares, Site, Some, Submitted, T, Tick, TmNo, Txn, U, Up, arith, base_of, clock, fits_submit, greatest_bound, height, if◌then◌else◌, lawful_permitted, local_of, next, nth_era, redeclares, setting_of, sound_whole, suc, tm_no, top, txn_at, ℕ, ◌/◌, ◌<◌, ◌^◌, ◌∷◌, ◌≡◌, ◌≤◌}
 use Rattle.sdd_obligations.proofs.Put.{databases}
 use Rattle.sdd_obligations.proofs.Early.{clock_below, height_below, is_under}
 use Rattle.sdd_needs.proofs.OfNext.{of_next}
@@ -92,6 +92,7 @@ all_obligations = record {
   submit = submit_fits;
   home = λ g good log at n l e. home_exists g log at n (fit_of g good).small l e (fit_of g good).txns_fit;
   tick = λ g good log t n l w e. (base_of g (Mark (Tick (tm_no t) n) ∷ log), site_fits g log (T (tm_no t)) (Mark (Tick (tm_no t) n)) good l w e);
+  resume = λ g good log at l w e. site_fits g log at (Mark (Up at)) good l w e;
   redeclare = redeclare_fits;
   sends = λ g good log at act l e. sends_linked g log at act (fit_of g good) l e;
 }

@@ -112,12 +112,12 @@ pub use Rattle.sdd_obligations.specs.logs.Locals.{IsEra, beginning, local_of, nt
 pub use Rattle.sdd_obligations.specs.logs.Left.{after_mark, left, mark_from, mark_of}
 pub use Rattle.sdd_obligations.specs.logs.Marks.{bound_at, greatest_bound, next_mark}
 pub use Rattle.sdd_obligations.specs.logs.Permitted.{AreSubmittedOnce, IsAllowed, IsPermitted, by_event, by_mark, one_if, submits_by, submits_in}
-pub use Rattle.sdd_obligations.specs.logs.Resting.{AllHanded, AllLinked, AtEach, EndsIn, IsFirst, IsLinkOf, IsMarked, IsPossible, IsSiteOf, Remain, Rests, TakesAway, TakesRounds, Waits, from_one, settles_before}
+pub use Rattle.sdd_obligations.specs.logs.Resting.{AllHanded, AllLinked, AtEach, EndsIn, IsFirst, IsLinkOf, IsMarked, IsModuleOf, IsPossible, IsSiteOf, Remain, Rests, TakesAway, TakesRounds, Waits, from_one, settles_before}
 pub use Rattle.sdd_obligations.specs.logs.Snapshots.{base_of}
 pub use Rattle.sdd_obligations.specs.logs.Spelled.{call_as, delivered_as, link_as, packet_as}
 pub use Rattle.sdd_obligations.specs.logs.Traffic.{all_links, calls_of, handed, is_down, link_of, message_at, puts, sent, takes_part}
 pub use Rattle.sdd_obligations.specs.net.Links.{Call, Delivers, Link, Loses, Puts, Repeats, Resends, arrives, deliver, delivered, delivery, given_by, in_flight, is_quiet_link, link, lose, newly_delivered, on_link, packet_at, quiet, repeat, resend, resends_now, round, turned, with_flight, with_packet, without_packet}
-pub use Rattle.sdd_obligations.specs.net.Mailboxes.{IsBefore, IsLowest, IsSender, IsWithin, Mailbox, OnlyAt, empty_mailbox, kept_count, kept_from, mailbox_at, number_of_t, place_of, queue_at}
+pub use Rattle.sdd_obligations.specs.net.Mailboxes.{IsBefore, IsLowest, IsSender, IsWithin, Mailbox, OnlyAt, empty_mailbox, kept_count, kept_from, mailbox_at, place_of, queue_at}
 pub use Rattle.sdd_obligations.specs.net.Nets.{Directions, HasLink, Represents, index_of, is_link, is_site, sent_on}
 pub use Rattle.sdd_obligations.specs.net.declared.delivered.Delivered.{Delivered}
 pub use Rattle.sdd_obligations.specs.net.declared.delivered.Delivered.TheVariants.{Acked, Messages}
