@@ -13,6 +13,7 @@ pub use Rattle.sdd_obligations.proofs.logs.Completing.{complete_parts}
 pub use Rattle.sdd_obligations.proofs.logs.Handing.{delivered_puts}
 pub use Rattle.sdd_obligations.proofs.logs.NewMarks.{lawful_permitted}
 pub use Rattle.sdd_obligations.proofs.logs.Permitted.{number_is}
+pub use Rattle.sdd_obligations.proofs.logs.Steps.{some_in}
 pub use Rattle.sdd_obligations.proofs.logs.Rounding.{each_of_round, no_events_quiet}
 pub use Rattle.sdd_obligations.proofs.logs.attempt.Lists.{few_filtered as filter_short}
 pub use Rattle.sdd_obligations.proofs.logs.tm.Lists.{of_map as in_mapped}

@@ -1,8 +1,8 @@
 -- A READ whose conditions are met is answered before the event is over.
-use Rattle.sdd_progress.proofs.AllWaits.{Act, Answer, ClassNo, ClassView, Cond, D, Did, DmNo, Does, Entry, Input, IsAnsweredIn, IsClassHere, IsPermitted, IsReadStep, IsStuck, List, Log, Msg, None, Pipe, Read, Records, Setting, Site, Some, Ts, TxnNo, Use, [], and_left, and_right, ap, arith, both, class_in_view, class_not_in_view, d_step, dec_le, false, head, inl, inr, is_met, length, list_all, not_both, not_own, passed, passing, pipe, read_step_way, refl, same_or_not, setting_of, site_due, subst, suc, sym, true, view_of, waits, ℕ, ◌++◌, ◌∙◌, ◌∷◌, ◌≡◌, ◌≤◌, ◌⊎◌}
+use Rattle.sdd_progress.proofs.AllWaits.{Act, Answer, ClassNo, ClassView, Cond, D, Did, DmNo, Does, Entry, Input, IsAnsweredIn, IsClassHere, IsLawful, IsPermitted, IsReadStep, IsStuck, List, Log, Msg, None, Pipe, Read, Records, Setting, Site, Some, Ts, TxnNo, Use, [], and_left, and_right, ap, arith, both, class_in_view, class_not_in_view, d_step, dec_le, false, head, inl, inr, is_met, length, list_all, not_both, not_own, passed, passing, pipe, read_step_way, refl, same_or_not, setting_of, site_due, subst, suc, sym, true, view_of, waits, ℕ, ◌++◌, ◌∙◌, ◌∷◌, ◌≡◌, ◌≤◌, ◌⊎◌}
 use Rattle.sdd_progress.proofs.AtModule.{IsEntryAt, acting, aside, at_module, entry_at, handed_head, handing, waits_on, waits_other}
 use Rattle.sdd_progress.proofs.ClassSites.{HasSmallHomes}
-use Rattle.sdd_progress.proofs.EventOver.{none_at_data}
+use Rattle.sdd_progress.proofs.NothingDue.{none_at_data}
 use Rattle.sdd_progress.proofs.Passing.{passed_later}
 use Rattle.sdd_progress.proofs.Rejected.{waited_answer}
 use Rattle.sdd_progress.proofs.StuckHeads.{head_stuck}
@@ -81,14 +81,14 @@ pub no_ready_head : (s : Setting) (l : site.Log) (c : ℕ) (ts : Ts) (of : Class
 no_ready_head s l c ts of txn attempt conds uses e h k = grind (arith, not_both, list_all)
 
 pub answered : (g : Input) (d : DmNo) (c : ℕ) (later log : Log) (ts : Ts) (of : ClassNo) (txn : TxnNo) (attempt : ℕ) (conds : List Cond) (uses : List Use)
-    → IsPermitted g (later ++ log) → HasSmallHomes g → IsClassHere (setting_of g (D d)) c → 1 ≤ d.0 → d.0 ≤ g.catalogue.dms
+    → IsPermitted g (later ++ log) → IsLawful g (later ++ log) → HasSmallHomes g → IsClassHere (setting_of g (D d)) c → 1 ≤ d.0 → d.0 ≤ g.catalogue.dms
     → waits c (at_module g d log) ≡ true → head (pipe c (at_module g d log)) ≡ Some (Read ts of txn attempt conds uses)
     → list_all (is_met (view_of (setting_of g (D d)) (at_module g d log))) conds ≡ true → site_due g (later ++ log) ≡ None → IsAnsweredIn d c txn attempt later
-answered g d c later log ts of txn attempt conds uses h small here from to w e met none =
+answered g d c later log ts of txn attempt conds uses h lawful small here from to w e met none =
     let s : Setting = setting_of g (D d) in
     let l : site.Log = at_module g d (later ++ log) in
     elim (waits_or_answered g d c later log ts of txn attempt conds uses h (w, e)) [
       | inl x ↦ absurd (no_ready_head s l c ts of txn attempt conds uses (all_met_later g d later log conds h small met) x.1
-          (head_stuck s l c here (none_at_data g (later ++ log) d from to none)))
+          (head_stuck s l c here (none_at_data g (later ++ log) d from to lawful none)))
       | inr x ↦ x
     ]

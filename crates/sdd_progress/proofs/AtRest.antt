@@ -7,7 +7,7 @@ use Rattle.sdd_progress.proofs.Finished.{finished}
 use Rattle.sdd_progress.proofs.SinceRedeclare.{redeclares_back}
 use Rattle.sdd_progress.proofs.Fronts.{recorded_front, recorded_more, recorded_within}
 use Rattle.sdd_progress.proofs.Known.{Known, started_before}
-use Rattle.sdd_progress.proofs.Still.{still_of}
+use Rattle.sdd_progress.proofs.Still.{module_up, still_of}
 
 pub next_at_redeclare : (g : Input) (log later mid : Log) (t : ℕ) → IsLawful g log → log ≡ later ++ Redeclares t ∷ mid → next g mid ≡ Some (Redeclares t)
 next_at_redeclare g log later mid t h is = lawful_at later (subst (IsLawful g) is h)
@@ -89,7 +89,7 @@ module _ (g : Input) (log : Log) (w : Known g log) where
       let are = are_eras_of g mid r.lists in
       let within = start_within g mid (eras_of g mid) x.start are (start_in g mid x.start w.sound r.quiet.permitted ct.started) in
       let m = goes_module g.catalogue w.sound x d goes in
-      let applied = all_applied g mid x.start.class d t.later t.before t.bases t.running (still_of g mid r.quiet) w.sound within m (r.quiet.up d m)
+      let applied = all_applied g mid x.start.class d t.later t.before t.bases t.running (still_of g mid r.quiet) w.sound within m (module_up g mid d r.quiet m)
       (r.idle.processed x.start.class d within m) t.is (goes_some g mid x t d goes) in
       let a = subst (λ n. AppliedBefore (history mid) n d (length (history mid))) t.txn_is
       (applied_before g mid [] mid (dm_no d) x.start.class t.running refl r.quiet.permitted applied) in

@@ -3,12 +3,12 @@ use Rattle.sdd_progress.proofs.All.{AppliedBefore, AreAllApplied, Committed, D, 
 use Rattle.sdd_progress.proofs.Applied.{all_applied}
 use Rattle.sdd_progress.proofs.ErasOf.{are_eras_of}
 use Rattle.sdd_progress.proofs.OwnCopies.{own_copy}
-use Rattle.sdd_progress.proofs.Still.{still_of}
+use Rattle.sdd_progress.proofs.Still.{module_up, still_of}
 use Rattle.sdd_obligations.specs.serial_orders.Attempts.{changes}
 
 -- what changes a fragment is applied at a copy whose module is up and has processed all of its class
 pub applied_at : (g : Input) (log : Log) (t : Committed) (f d : ℕ) → IsSoundCatalogue g.catalogue → IsStill g log → HasSoundLists g log
-    → IsCommitted (history log) t → changes t f ≡ true → has_copy g.catalogue d f ≡ true → is_down d log ≡ false
+    → IsCommitted (history log) t → changes t f ≡ true → has_copy g.catalogue d f ≡ true → is_down (D (dm_no d)) log ≡ false
     → ((within : IsClass g.catalogue t.start.class) → IsModule g.catalogue d → (pipe t.start.class (at_module g d log)).unprocessed ≡ [])
     → AppliedBefore (history log) t.start.txn d (length (history log))
 applied_at g log t f d sound h lists c e copied up none =
@@ -24,7 +24,7 @@ applied_at g log t f d sound h lists c e copied up none =
 pub applied_at_copies : (g : Input) (log : Log) (f d : ℕ) → IsSoundCatalogue g.catalogue → IsQuiet g log → HasSoundLists g log → IsIdle g log
     → has_copy g.catalogue d f ≡ true → AreAllApplied (history log) f d (length (history log))
 applied_at_copies g log f d sound h lists idle copied t c e =
-    applied_at g log t f d sound (still_of g log h) lists c e copied (h.up d (copy_module g.catalogue sound d f copied))
+    applied_at g log t f d sound (still_of g log h) lists c e copied (module_up g log d h (copy_module g.catalogue sound d f copied))
     (λ within m. idle.processed t.start.class d within m)
 
 -- and each module has there what a serial run leaves

@@ -4,7 +4,7 @@ use Rattle.sdd_progress.proofs.All.{Act, Apply, Attempt, Bases, Bool, ClassNo, D
 use Rattle.sdd_progress.proofs.Applied.{all_applied}
 use Rattle.sdd_progress.proofs.CountedDones.{all_current, counted_off}
 use Rattle.sdd_progress.proofs.Handed.{all_handed}
-use Rattle.sdd_progress.proofs.Still.{home_linked, still_of}
+use Rattle.sdd_progress.proofs.Still.{home_linked, module_up, still_of}
 use Rattle.sdd_obligations.specs.site_module.SiteLog as site
 
 -- one module's DONEs, and those of n modules from module a on
@@ -74,7 +74,8 @@ AreServedApplied g log =
 
 pub idle_applied : (g : Input) (log : Log) → IsQuiet g log → IsSoundCatalogue g.catalogue → IsIdle g log → AreServedApplied g log
 idle_applied g log h sound idle later before bases a is active_is d m =
-    all_applied g log 0 d later before bases a (still_of g log h) sound (omega arith) m (h.up d m) (idle.processed 0 d (omega arith) m) is (inl refl)
+    all_applied g log 0 d later before bases a (still_of g log h) sound (omega arith) m (module_up g log d h m)
+    (idle.processed 0 d (omega arith) m) is (inl refl)
 
 -- the DONE of a module at which the WRITE is applied was handed over
 pub from_applied : (g : Input) (log : Log) (d : ℕ) (a : Attempt) → IsStill g log → IsSoundCatalogue g.catalogue → IsModule g.catalogue d

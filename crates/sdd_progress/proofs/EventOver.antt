@@ -1,6 +1,7 @@
--- Where an event is over, nothing is due at any site.
-use Rattle.sdd_progress.proofs.AllWaits.{D, DmNo, Entry, Input, IsEventOver, IsLawful, IsTheLog, List, Log, None, Option, Site, Some, T, TmNo, [], ap, arith, at_map, base_of, begins_event, begins_or_ends, does_at, false, first_some, in_left, in_right, local_of, map, next_at, no_act, not_both, or_else, range_there, range_with_len, setting_of, site_due, sites, slice_get, suc, true, ℕ, ◌∙◌, ◌∷◌, ◌≡◌, ◌≤◌}
+-- Where an event is over, nothing is due at any site that takes part.
+use Rattle.sdd_progress.proofs.AllWaits.{D, DmNo, Entry, Input, IsEventOver, IsLawful, IsTheLog, List, Log, None, Option, Site, Some, T, TmNo, [], ap, arith, at_map, base_of, begins_event, begins_or_ends, does_at, false, first_some, in_left, in_right, local_of, map, next_at, no_act, none_in, not, not_both, or_else, range_there, range_with_len, setting_of, site_due, sites, slice_get, suc, true, ℕ, ◌∙◌, ◌∷◌, ◌≡◌, ◌≤◌}
 use Rattle.sdd_progress.proofs.StuckHeads.{none_at}
+use Rattle.sdd_obligations.specs.All.{is_down, next_in, takes_part}
 use Rattle.sdd_obligations.specs.dm.Due as dm
 use Rattle.sdd_obligations.specs.dm.Views as dm_views
 use Rattle.sdd_obligations.specs.tm.Due as tm
@@ -47,10 +48,16 @@ txn_there tms dms t l h =
     let r = range_there 1 tms t.0 l (omega arith) in
     (suc r.0, in_left (map (λ n. T (record { 0 = n })) (range_with_len 1 tms)) (map (λ n. D (record { 0 = n })) (range_with_len 1 dms)) r.0 (T t) (at_map (λ n. T (record { 0 = n })) (range_with_len 1 tms) r.0 t.0 r.1))
 
-pub none_at_data : (g : Input) (log : Log) (d : DmNo) → 1 ≤ d.0 → d.0 ≤ g.catalogue.dms → site_due g log ≡ None
-    → dm.due (dm_views.home_of (setting_of g (D d))) (dm_views.view_of (setting_of g (D d)) (local_of g (D d) log)) ≡ None
-none_at_data g log d l h e = let i = data_there g.catalogue.tms g.catalogue.dms d l h in (no_act (D d) (next_at g log (D d)) (none_at (λ x. does_at x (next_at g log x)) (sites g.catalogue.tms g.catalogue.dms) i.0 (D d) e i.1))
+-- nothing is due at one that takes part
+none_there : (g : Input) (log : Log) (at : Site) (k : ℕ) → slice_get (sites g.catalogue.tms g.catalogue.dms) k ≡ Some at → takes_part at log ≡ true
+    → site_due g log ≡ None → next_in g at (base_of g log) (local_of g at log) ≡ None
+none_there g log at k i part e =
+    none_in g log at part (no_act at (next_at g log at) (none_at (λ x. does_at x (next_at g log x)) (sites g.catalogue.tms g.catalogue.dms) k at e i))
 
-pub none_at_txn : (g : Input) (log : Log) (t : TmNo) → 1 ≤ t.0 → t.0 ≤ g.catalogue.tms → site_due g log ≡ None
+pub none_at_data_up : (g : Input) (log : Log) (d : DmNo) → 1 ≤ d.0 → d.0 ≤ g.catalogue.dms → is_down (D d) log ≡ false → site_due g log ≡ None
+    → dm.due (dm_views.home_of (setting_of g (D d))) (dm_views.view_of (setting_of g (D d)) (local_of g (D d) log)) ≡ None
+none_at_data_up g log d l h up e = let i = data_there g.catalogue.tms g.catalogue.dms d l h in none_there g log (D d) i.0 i.1 (ap not up) e
+
+pub none_at_txn : (g : Input) (log : Log) (t : TmNo) → 1 ≤ t.0 → t.0 ≤ g.catalogue.tms → takes_part (T t) log ≡ true → site_due g log ≡ None
     → tm.next (setting_of g (T t)) (base_of g log) (local_of g (T t) log) ≡ None
-none_at_txn g log t l h e = let i = txn_there g.catalogue.tms g.catalogue.dms t l h in (no_act (T t) (next_at g log (T t)) (none_at (λ x. does_at x (next_at g log x)) (sites g.catalogue.tms g.catalogue.dms) i.0 (T t) e i.1))
+none_at_txn g log t l h part e = let i = txn_there g.catalogue.tms g.catalogue.dms t l h in none_there g log (T t) i.0 i.1 part e

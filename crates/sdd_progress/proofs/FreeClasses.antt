@@ -1,7 +1,7 @@
 -- Of a free class no attempt waits or is rejected, and what is handed over of it is processed before the event is over.
-use Rattle.sdd_progress.proofs.AllWaits.{Answer, Apply, Bool, Change, ClassNo, ClassView, Cond, D, DmNo, Does, Hand, Input, IsAnsweredIn, IsAppliedIn, IsFreeClass, IsPermitted, IsSoundCatalogue, IsStuck, IsWaitOf, List, Log, May, Msg, None, Option, Read, Rec, Records, Rejected, Setting, Site, Some, Ts, TxnNo, Use, View, Write, [], allowed_act, and_left, and_right, any_at, ap, append_assoc, arith, class_at_place, class_no, eqb-true, head, head_place, holds, holds_back, inl, inr, is_wait, lacking, list_all, list_any, not, not_both, permitted_before, pipe, pipe_at, refl, same_number, same_or_not, setting_of, site_due, slice_get, subst, sym, true, txn_no, view_of, waits, ℕ, ◌&&◌, ◌++◌, ◌==◌, ◌∙◌, ◌∷◌, ◌≡◌, ◌≢◌, ◌≤◌}
+use Rattle.sdd_progress.proofs.AllWaits.{Answer, Apply, Bool, Change, ClassNo, ClassView, Cond, D, DmNo, Does, Hand, Input, IsAnsweredIn, IsAppliedIn, IsFreeClass, IsLawful, IsPermitted, IsSoundCatalogue, IsStuck, IsWaitOf, List, Log, May, Msg, None, Option, Read, Rec, Records, Rejected, Setting, Site, Some, Ts, TxnNo, Use, View, Write, [], allowed_act, and_left, and_right, any_at, ap, append_assoc, arith, class_at_place, class_no, eqb-true, head, head_place, holds, holds_back, inl, inr, is_wait, lacking, list_all, list_any, not, not_both, permitted_before, pipe, pipe_at, refl, same_number, same_or_not, setting_of, site_due, slice_get, subst, sym, true, txn_no, view_of, waits, ℕ, ◌&&◌, ◌++◌, ◌==◌, ◌∙◌, ◌∷◌, ◌≡◌, ◌≢◌, ◌≤◌}
 use Rattle.sdd_progress.proofs.AtModule.{at_module}
-use Rattle.sdd_progress.proofs.EventOver.{none_at_data}
+use Rattle.sdd_progress.proofs.NothingDue.{none_at_data}
 use Rattle.sdd_progress.proofs.FreeConditions.{names_none, unconditional}
 use Rattle.sdd_progress.proofs.ProcessedIn.{IsProcessedIn, processed_by_end}
 use Rattle.sdd_progress.proofs.Rejected.{rejected, spoiler_there}
@@ -58,14 +58,14 @@ no_head g log i d (Write w wc wt changes) free h sound lo hi e x =
 no_head g log i d _ free h sound lo hi e x = x
 
 pub none_at_head : (g : Input) (log : Log) (i : ℕ) (d : DmNo) → IsFreeClass g i → IsPermitted g log → IsSoundCatalogue g.catalogue → 1 ≤ d.0
-    → d.0 ≤ g.catalogue.dms → site_due g log ≡ None → head (pipe_at g i d log) ≡ None
-none_at_head g log i d free h sound lo hi none =
+    → d.0 ≤ g.catalogue.dms → IsLawful g log → site_due g log ≡ None → head (pipe_at g i d log) ≡ None
+none_at_head g log i d free h sound lo hi lawful none =
     let s : Setting = setting_of g (D d) in
     let l : site.Log = at_module g d log in
     elim (head (pipe i l)) as (λ o. head (pipe i l) ≡ o → IsStuck s l i o → o ≡ None) [
       | None ↦ λ e y. refl
       | Some m ↦ λ e y. absurd (no_head g log i d m free h sound lo hi e y)
-    ] refl (head_stuck s l i (let l = free.class.to in omega arith) (none_at_data g log d lo hi none))
+    ] refl (head_stuck s l i (let l = free.class.to in omega arith) (none_at_data g log d lo hi lawful none))
 
 -- what is handed over of the class is processed by then
 
@@ -85,12 +85,13 @@ pub answered_by_end : (g : Input) (i : ℕ) (d : DmNo) (from : Site) (n : ℕ) (
     (txn : TxnNo) (attempt : ℕ) (conds : List Cond) (uses : List Use)
     → IsFreeClass g i → IsSoundCatalogue g.catalogue → 1 ≤ d.0 → d.0 ≤ g.catalogue.dms → of.0 ≡ i
     → IsPermitted g (later ++ Hand from (D d) n (Read ts of txn attempt conds uses) ∷ log)
+    → IsLawful g (later ++ Hand from (D d) n (Read ts of txn attempt conds uses) ∷ log)
     → site_due g (later ++ Hand from (D d) n (Read ts of txn attempt conds uses) ∷ log) ≡ None → IsAnsweredIn d i txn attempt later
-answered_by_end g i d from n later log ts of txn attempt conds uses free sound lo hi class h none =
+answered_by_end g i d from n later log ts of txn attempt conds uses free sound lo hi class h lawful none =
     let m : Msg = Read ts of txn attempt conds uses in
     let handed : Log = Hand from (D d) n m ∷ log in
     let p : IsProcessedIn g handed d i m later = processed_by_end g d i from n m later log h (ap (λ k. k == i) class ∙ same_number i)
-    (none_at_head g (later ++ handed) i d free h sound lo hi none) in
+    (none_at_head g (later ++ handed) i d free h sound lo hi lawful none) in
     let hb : IsPermitted g (p.before ++ handed) = (grind (arith, append_assoc, permitted_before)) in
     let empty = unconditional g (p.before ++ handed) i d _ ts of txn attempt conds uses hb free (head_place (pipe_at g i d (p.before ++ handed)) m p.head_is) in
     let l : site.Log = at_module g d (p.before ++ handed) in
@@ -100,12 +101,13 @@ answered_by_end g i d from n later log ts of txn attempt conds uses free sound l
 pub applied_by_end : (g : Input) (i : ℕ) (d : DmNo) (from : Site) (n : ℕ) (later log : Log) (ts : Ts) (of : ClassNo) (txn : TxnNo) (changes : List Change)
     → IsFreeClass g i → IsSoundCatalogue g.catalogue → 1 ≤ d.0 → d.0 ≤ g.catalogue.dms → of.0 ≡ i
     → IsPermitted g (later ++ Hand from (D d) n (Write ts of txn changes) ∷ log)
+    → IsLawful g (later ++ Hand from (D d) n (Write ts of txn changes) ∷ log)
     → site_due g (later ++ Hand from (D d) n (Write ts of txn changes) ∷ log) ≡ None → IsAppliedIn d i txn ts later
-applied_by_end g i d from n later log ts of txn changes free sound lo hi class h none =
+applied_by_end g i d from n later log ts of txn changes free sound lo hi class h lawful none =
     let m : Msg = Write ts of txn changes in
     let handed : Log = Hand from (D d) n m ∷ log in
     let p : IsProcessedIn g handed d i m later = processed_by_end g d i from n m later log h (ap (λ k. k == i) class ∙ same_number i)
-    (none_at_head g (later ++ handed) i d free h sound lo hi none) in
+    (none_at_head g (later ++ handed) i d free h sound lo hi lawful none) in
     let l : site.Log = at_module g d (p.before ++ handed) in
     let a = write_applied (view_of (setting_of g (D d)) l) i (waits i l) ts of txn changes p.rec p.may in
     (grind arith)

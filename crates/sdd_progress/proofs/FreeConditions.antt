@@ -2,7 +2,6 @@
 use Rattle.sdd_progress.proofs.AllWaits.{ClassNo, Cond, DmNo, Era, FragNo, Input, IsDiagonalIn, IsFreeClass, IsFromTable, IsPermitted, List, Log, P1, P2, P3, Protocol, Read, Some, Ts, TxnNo, Use, [], all_of, ap, arith, inl, inr, nth_era, pipe_at, refl, slice_get, slice_index_or, subst, suc, zero, ℕ, ◌∷◌, ◌≡◌, ◌≢◌}
 use Rattle.sdd_progress.proofs.FreeBlocks.{none_from, none_to}
 use Rattle.sdd_progress.proofs.FromTable.{conditions_of}
-use Rattle.sdd_obligations.specs.protocol.declared.entry.Entry as line
 
 third_not : {A : Type 0} → P3 ≡ P1 → A
 third_not e = cc

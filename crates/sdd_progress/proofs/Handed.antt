@@ -1,5 +1,5 @@
 -- Where nothing goes on, all that was put on a link was handed over at its end, if the site there takes part.
-use Rattle.sdd_progress.proofs.All.{Catalogue, D, Input, IsQuiet, IsStill, IsThere, List, Log, None, Option, Site, Some, [], all_at, all_links, and_left, and_right, ap, are_linked, arith, calls_of, cond, cons_option, dec_le, dm_no, drop, false, filter_map, flat_map, flight, hand_on, handed, hands_from, home, in_left, in_order, in_right, inl, inr, is_down, is_empty, is_link, is_quiet_link, le_is, length, link, link_of, link_parts, links, local_of, member_there, none_not_some, not, one_on, puts_to, refl, same_or_not, sent, sent_is, site_there, sites, slice_get, sound, subst, suc, sym, take_all, takes_part, true, zero, ℕ, ◌-◌, ◌∙◌, ◌∷◌, ◌≡◌, ◌≤◌}
+use Rattle.sdd_progress.proofs.All.{D, Input, IsQuiet, IsStill, IsThere, List, Log, None, Option, Site, Some, T, U, [], all_at, all_links, and_right, ap, are_linked, arith, calls_of, cond, cons_option, dec_le, drop, filter_map, flat_map, flight, hand_on, handed, hands_from, in_left, in_order, in_right, is_empty, is_link, is_quiet_link, le_is, length, link, link_of, link_parts, links, local_of, member_there, none_not_some, not, one_on, puts_to, refl, sent, sent_is, site_there, sites, slice_get, sound, subst, suc, sym, take_all, takes_part, true, zero, ℕ, ◌-◌, ◌∙◌, ◌∷◌, ◌≡◌, ◌≤◌}
 use Rattle.sdd_progress.proofs.Lists.{none_at}
 
 -- places
@@ -31,19 +31,12 @@ link_there tms dms a b e =
     let j = site_there tms dms b p.to in
     in_flat (links_from tms dms) (sites tms dms) i.0 a (a, b) i.1 (in_filter_map (link_if a) (sites tms dms) j.0 b (a, b) j.1 (rw p.linked refl))
 
--- a module that is up takes part, and so does the site of a class always
-
-pub up_part : (d : ℕ) (log : Log) → is_down d log ≡ false → takes_part (D (dm_no d)) log ≡ true
-up_part d log e = ap not e
-
-pub home_part : (cat : Catalogue) (c : ℕ) (log : Log) → takes_part (home cat c) log ≡ true
-home_part cat c log = elim (same_or_not c 0) [
-  | inl p ↦ ap (λ k. takes_part (home cat k) log) p
-  | inr p ↦ rw p refl
-]
+-- where no module is down each site takes part
 
 pub quiet_part : (g : Input) (log : Log) (a b : Site) → IsQuiet g log → is_link g.catalogue.tms g.catalogue.dms a b ≡ true → takes_part b log ≡ true
-quiet_part g log a b h e = grind (arith, le_is, and_left, and_right)
+quiet_part g log a U h e = refl
+quiet_part g log a (T t) h e = ap not (h.up (T t) (link_parts g.catalogue.tms g.catalogue.dms a (T t) e).to)
+quiet_part g log a (D d) h e = ap not (h.up (D d) (link_parts g.catalogue.tms g.catalogue.dms a (D d) e).to)
 
 -- nothing is left on the way
 pub none_left : (g : Input) (log : Log) (a b : Site) → IsStill g log → takes_part b log ≡ true → is_link g.catalogue.tms g.catalogue.dms a b ≡ true

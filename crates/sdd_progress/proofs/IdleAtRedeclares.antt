@@ -1,5 +1,5 @@
 -- On a lawful log all was idle wherever a further class list was put in force, if no module was down there.
-use Rattle.sdd_progress.proofs.All.{AreSubmittedOnce, Bool, Entry, Event, HasSoundLists, Input, IsIdle, IsIdleAtRedeclares, IsLawful, IsModule, IsQuiet, IsSoundList, IsUpAtRedeclares, List, Log, None, Option, Redeclare, Redeclares, Settle, Some, Up, [], all_links, ap, arith, calls_of, false, found_at, greatest_bound, hand_due, is_down, lawful_permitted, left, mark_due, mark_from, mark_of, next, next_mark, next_mark_is, or_else, quiet, redeclares, refl, site_due, subst, sym, true, ℕ, ◌++◌, ◌∙◌, ◌∷◌, ◌≡◌}
+use Rattle.sdd_progress.proofs.All.{AreSubmittedOnce, Bool, Entry, Event, HasSoundLists, Input, IsIdle, IsIdleAtRedeclares, IsLawful, IsModuleOf, IsQuiet, IsSoundList, IsUpAtRedeclares, List, Log, None, Option, Redeclare, Redeclares, Settle, Site, Some, Up, [], all_links, ap, arith, calls_of, false, found_at, greatest_bound, hand_due, is_down, lawful_permitted, left, mark_due, mark_from, mark_of, next, next_mark, next_mark_is, or_else, quiet, redeclares, refl, site_due, subst, sym, true, ℕ, ◌++◌, ◌∙◌, ◌∷◌, ◌≡◌}
 use Rattle.sdd_progress.proofs.NoneWaits.{is_idle}
 use Rattle.sdd_progress.proofs.SinceRedeclare.{redeclares_up}
 
@@ -50,7 +50,7 @@ at_redeclare g log t e =
 -- so nothing goes on there, and all is idle, since all was idle where the earlier lists were put in force
 
 idle_at_redeclare : (g : Input) (log : Log) (t : ℕ) → AreSubmittedOnce g.events → IsLawful g log → next g log ≡ Some (Redeclares t)
-    → IsSoundList g (redeclares log) → IsIdleAtRedeclares g log → ((d : ℕ) → IsModule g.catalogue d → is_down d log ≡ false) → IsQuiet g log × IsIdle g log
+    → IsSoundList g (redeclares log) → IsIdleAtRedeclares g log → ((at : Site) → IsModuleOf g at → is_down at log ≡ false) → IsQuiet g log × IsIdle g log
 idle_at_redeclare g log t once h e one marks up =
     let m = at_redeclare g log t e in
     let q : IsQuiet g log = record { permitted = lawful_permitted g log once h; links = m.links; up = up; no_act = m.no_site; no_hand = m.no_hand } in

@@ -1,11 +1,11 @@
 -- A READ whose conditions are met, that doesn't wait and isn't spoilt, is answered before the event is over, or rejected
 -- after an Apply that spoils it.
 use Rattle.std.proofs.Common.{arith}
-use Rattle.sdd_progress.proofs.AllWaits.{Act, Answer, Bool, ClassNo, Cond, D, Did, DmNo, Does, Entry, Input, IsAnsweredIn, IsClassHere, IsDue, IsPermitted, IsReadStep, IsRejectedAfter, IsRejectedIn, IsWaitOf, List, Log, May, Msg, None, Pipe, Read, Rec, Records, Rejected, Setting, Site, Some, Ts, TxnNo, Use, View, [], and_left, and_right, ap, by_record, cond, d_step, false, filter, head, head_of, home_of, inl, inr, is_met, is_processing, is_wait, lacking, list_all, not, not_own, passing, pipe, read_step_way, refl, same_or_not, setting_of, site_due, slice_get, spoiler, spoils, subst, suc, sym, true, txn_no, view_of, waits, zero, ℕ, ◌++◌, ◌∙◌, ◌∷◌, ◌≡◌, ◌≤◌, ◌⊎◌}
+use Rattle.sdd_progress.proofs.AllWaits.{Act, Answer, Bool, ClassNo, Cond, D, Did, DmNo, Does, Entry, Input, IsAnsweredIn, IsClassHere, IsDue, IsLawful, IsPermitted, IsReadStep, IsRejectedAfter, IsRejectedIn, IsWaitOf, List, Log, May, Msg, None, Pipe, Read, Rec, Records, Rejected, Setting, Site, Some, Ts, TxnNo, Use, View, [], and_left, and_right, ap, by_record, cond, d_step, false, filter, head, head_of, home_of, inl, inr, is_met, is_processing, is_wait, lacking, list_all, not, not_own, passing, pipe, read_step_way, refl, same_or_not, setting_of, site_due, slice_get, spoiler, spoils, subst, suc, sym, true, txn_no, view_of, waits, zero, ℕ, ◌++◌, ◌∙◌, ◌∷◌, ◌≡◌, ◌≤◌, ◌⊎◌}
 use Rattle.sdd_progress.proofs.Answered.{Answers, all_met_later, answered_now, answered_on, no_ready_head}
 use Rattle.sdd_progress.proofs.AtModule.{IsEntryAt, acting, aside, at_module, entry_at, handed_head, handing, waits_other}
 use Rattle.sdd_progress.proofs.ClassSites.{HasSmallHomes}
-use Rattle.sdd_progress.proofs.EventOver.{none_at_data}
+use Rattle.sdd_progress.proofs.NothingDue.{none_at_data}
 use Rattle.sdd_progress.proofs.Rejected.{processing_of, spoiler_there}
 use Rattle.sdd_progress.proofs.Spoilt.{spoilt_in}
 use Rattle.sdd_progress.proofs.StuckHeads.{head_stuck}
@@ -150,16 +150,16 @@ stays_or_done g d c (e ∷ later) log ts of txn attempt conds uses h small clean
     ]
 
 pub answered_or_rejected : (g : Input) (d : DmNo) (c : ℕ) (later log : Log) (ts : Ts) (of : ClassNo) (txn : TxnNo) (attempt : ℕ) (conds : List Cond) (uses : List Use)
-    → IsPermitted g (later ++ log) → HasSmallHomes g → IsClassHere (setting_of g (D d)) c → 1 ≤ d.0 → d.0 ≤ g.catalogue.dms
+    → IsPermitted g (later ++ log) → IsLawful g (later ++ log) → HasSmallHomes g → IsClassHere (setting_of g (D d)) c → 1 ≤ d.0 → d.0 ≤ g.catalogue.dms
     → waits c (at_module g d log) ≡ false → head (pipe c (at_module g d log)) ≡ Some (Read ts of txn attempt conds uses)
     → list_all (is_met (view_of (setting_of g (D d)) (at_module g d log))) conds ≡ true
     → spoiler (view_of (setting_of g (D d)) (at_module g d log)) conds ≡ None → site_due g (later ++ log) ≡ None
     → IsAnsweredIn d c txn attempt later ⊎ IsRejectedAfter g log d c txn attempt conds later
-answered_or_rejected g d c later log ts of txn attempt conds uses h small here from to w e met clean none =
+answered_or_rejected g d c later log ts of txn attempt conds uses h lawful small here from to w e met clean none =
     let s : Setting = setting_of g (D d) in
     let l : site.Log = at_module g d (later ++ log) in
     elim (stays_or_done g d c later log ts of txn attempt conds uses h small clean met (w, e)) [
       | inl x ↦ absurd (no_ready_head s l c ts of txn attempt conds uses (all_met_later g d later log conds h small met) x.1
-          (head_stuck s l c here (none_at_data g (later ++ log) d from to none)))
+          (head_stuck s l c here (none_at_data g (later ++ log) d from to lawful none)))
       | inr x ↦ x
     ]

@@ -10,6 +10,7 @@ pub mod AtModule
 pub mod AtRest
 pub mod AtT
 pub mod AtU
+pub mod AttemptsRest
 pub mod AttemptsSquare
 pub mod Beginning
 pub mod Bounds
@@ -54,6 +55,7 @@ pub mod NeededModules
 pub mod NeverBoth
 pub mod NoRejects
 pub mod NoneWaits
+pub mod NothingDue
 pub mod OfLawful
 pub mod OfLogs
 pub mod OneEra
@@ -68,6 +70,7 @@ pub mod ProcessedIn
 pub mod PutBeside
 pub mod Questions
 pub mod QuietAfter
+pub mod ReadsUnderWay
 pub mod Rejected
 pub mod Rejects
 pub mod Settled

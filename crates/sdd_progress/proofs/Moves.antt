@@ -1,5 +1,5 @@
 -- The use that a next move reduces has rows, at a module that reads it.
-use Rattle.sdd_progress.proofs.All.{AllHaveParts, Asking, Condition, Const, CountsRead, Exchange, IsRead, List, Move, None, Option, Same, Some, Step, [], and_right, arith, chosen, cond, count_of, counts_for, fewest, filter, filter_map, flat_map, inl, is_candidate, joins_from, ltb-true, map, move_at, moves_by, next_move, range_with_len, refl, rows_at, same_or_not, slice_index_or, subst, suc, sym, zero, ℕ, ◌+◌, ◌-◌, ◌<◌, ◌==◌, ◌∷◌, ◌≡◌, ◌≤◌, ◌⊎◌}
+use Rattle.sdd_progress.proofs.All.{AllHaveParts, Asking, Condition, Const, CountsRead, Exchange, IsRead, List, Move, None, Option, Same, Some, Step, [], and_right, arith, chosen, cond, count_of, counts_for, fewest, filter, filter_map, flat_map, inl, is_candidate, joins_from, ltb-true, map, move_at, moves_by, next_move, range_with_len, refl, rows_at, same_or_not, slice_index_or, subst, suc, sym, zero, ℕ, ◌+◌, ◌<◌, ◌==◌, ◌∷◌, ◌≡◌, ◌≤◌, ◌⊎◌}
 
 -- the moves of a query reduce parts that count from 1
 abbrev AllReduceParts : List Move → Type 0

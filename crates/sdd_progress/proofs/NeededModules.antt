@@ -1,6 +1,6 @@
 -- What is up where the modules are that a class needs: the modules that its attempts ask, since a class reads there, and so
 -- those at which its READs wait; and what the classes need for which they wait.
-use Rattle.sdd_progress.proofs.All.{AllByRecursion, Attempt, Catalogue, Cond, Contains, D, FragNo, Input, IsClass, IsDiagonalIn, IsFromTable, IsPermitted, IsPutAt, IsReader, List, Log, Msg, Needs, NeedsAreUp, None, Option, P2, P3, Protocol, Read, Setting, Site, Some, [], active, ap, ascending, asks_by, at_home, attempt_task, attempts_need, both, class_at, class_number, contains, cons_option, dm_no, eq-eqb, eqb-true, false, filter_map, firsts, fragments_in, head_put, held_needs, home, home_fair, inl, inr, is_wait, local_of, map, option_map, or_left, or_right, passing_task, queued_needs, read_needs, recursion_from_All, refl, same_number, sends_of_act, setting_of, slice_get, start_at, start_read, subst, sym, table_in_force, time_at, to_site, true, true_or_false, uses_of, waits_by, waits_need, ℕ, ◌==◌, ◌∙◌, ◌∷◌, ◌≡◌}
+use Rattle.sdd_progress.proofs.All.{AllByRecursion, Attempt, Catalogue, Cond, Contains, D, FragNo, Input, IsClass, IsDiagonalIn, IsFromTable, IsPermitted, IsPutAt, IsReader, IsSoundCatalogue, List, Log, Msg, Needs, NeedsAreUp, None, Option, P2, P3, Protocol, Read, Setting, Site, Some, T, [], active, ap, ascending, asks_by, at_home, attempt_task, attempts_need, both, class_at, class_number, contains, cons_option, dm_no, eq-eqb, eqb-true, false, filter_map, firsts, fragments_in, head_put, held_needs, home, home_fair, home_needs, inl, inr, is_site, is_wait, local_of, map, not, option_map, or_left, or_right, passing_task, queued_needs, read_needs, recursion_from_All, refl, same_number, sends_of_act, setting_of, slice_get, start_at, start_read, subst, sym, table_in_force, takes_part, time_at, to_site, true, true_or_false, uses_of, waits_by, waits_need, ℕ, ◌==◌, ◌∙◌, ◌∷◌, ◌≡◌}
 use Rattle.sdd_lawful.proofs.Touched.{any_there}
 use Rattle.sdd_obligations.proofs.catalog.Sound.{found_in_all}
 use Rattle.sdd_obligations.proofs.invariants.Answered.{honest}
@@ -17,6 +17,7 @@ use Rattle.sdd_obligations.specs.protocol.declared.entry.Entry as line
 use Rattle.sdd_obligations.specs.site_module.SiteLog as site
 use Rattle.sdd_progress.proofs.Lacking.{AsksUp}
 use Rattle.sdd_progress.proofs.Lists.{either}
+use Rattle.sdd_progress.proofs.Still.{d_site, home_site}
 use Rattle.std.proofs.lemmas.List.Elements.{All-from_recursion}
 use Rattle.std.specs.List.{find}
 
@@ -134,13 +135,13 @@ pub record CanMove (g : Input) (log : Log) (Clear : ℕ → Type 0) (c d : ℕ) 
   pub others : (r : ℕ) → ReadsThere g.catalogue r d → waits_by (table_in_force g log) r c ≡ true → Clear r
 
 pub of_attempt : (g : Input) (log : Log) (c : ℕ) → NeedsAreUp g log (attempt_task c) → PassingsUp g log c
-of_attempt g log c up j w d m n = up d m (waits_need c j (D (dm_no d)) w n)
+of_attempt g log c up j w at m n = up at m (waits_need c j at w n)
 
 pub of_passing : (g : Input) (log : Log) (c : ℕ) → NeedsAreUp g log (passing_task c) → NeedsAreUp g log (attempt_task c)
-of_passing g log c up d m n = up d m (attempts_need c (D (dm_no d)) n)
+of_passing g log c up at m n = up at m (attempts_need c at n)
 
 pub of_held : (g : Input) (log : Log) (c r : ℕ) → NeedsAreUp g log (passing_task c) → waits_by (table_in_force g log) r c ≡ true → PassingsUp g log r
-of_held g log c r up w j v d m n = up d m (held_needs c j r (D (dm_no d)) w v n)
+of_held g log c r up w j v at m n = up at m (held_needs c j r at w v n)
 
 pub passing_moves : (g : Input) (log : Log) (c d : ℕ) → NeedsAreUp g log (passing_task c) → CanMove g log (PassingsUp g log) c d
 passing_moves g log c d up = record { own = of_attempt g log c (of_passing g log c up); others = λ r there w. of_held g log c r up w }
@@ -148,25 +149,38 @@ passing_moves g log c d up = record { own = of_attempt g log c (of_passing g log
 pub attempt_moves : (g : Input) (log : Log) (c d : ℕ) → NeedsAreUp g log (attempt_task c) → ReadsThere g.catalogue c d → CanMove g log (PassingsUp g log) c d
 attempt_moves g log c d up here = record {
   own = of_attempt g log c up;
-  others = λ r there w j v b m n. up b m
-      (queued_needs c j r here.read there.read (D (dm_no b)) here.there there.there (ap dm_no (here.at_is ∙ sym there.at_is)) w v n);
+  others = λ r there w j v at m n. up at m
+      (queued_needs c j r here.read there.read at here.there there.there (ap dm_no (here.at_is ∙ sym there.at_is)) w v n);
 }
 
--- so the modules are up that an attempt asks
-pub asks_up : (g : Input) (log : Log) (c : ℕ) → IsPermitted g log → (c == 0) ≡ false → IsClassOf g.catalogue c → NeedsAreUp g log (attempt_task c) → AsksUp g log c
-asks_up g log c h z class up a e d m asked =
-    let r = attempt_reads g log c d a h z e asked in
-    up d m (subst (λ x. Needs g.catalogue (table_in_force g log) (attempt_task c) (D (dm_no x))) r.at_is (read_needs c r.read class r.there))
+-- so its transaction module is up
+pub home_up : (g : Input) (log : Log) (c : ℕ) → IsSoundCatalogue g.catalogue → (c == 0) ≡ false → IsClassOf g.catalogue c
+    → NeedsAreUp g log (attempt_task c) → takes_part (home g.catalogue c) log ≡ true
+home_up g log c sound z class up =
+    let at : home g.catalogue c ≡ T (class_at g.catalogue c).tm = rw z refl in
+    let here : is_site g.catalogue.tms g.catalogue.dms (T (class_at g.catalogue c).tm) ≡ true =
+    subst (λ x. is_site g.catalogue.tms g.catalogue.dms x ≡ true) at (home_site g.catalogue c sound class.to) in
+    subst (λ x. takes_part x log ≡ true) (sym at) (ap not (up (T (class_at g.catalogue c).tm) here (home_needs c class)))
+
+-- and so are the modules that an attempt asks
+pub asks_up : (g : Input) (log : Log) (c : ℕ) → IsSoundCatalogue g.catalogue → IsPermitted g log → (c == 0) ≡ false → IsClassOf g.catalogue c
+    → NeedsAreUp g log (attempt_task c) → AsksUp g log c
+asks_up g log c sound h z class up = (
+  home_up g log c sound z class up,
+  λ a e d m asked. (let r = attempt_reads g log c d a h z e asked in
+      up (D (dm_no d)) (d_site g.catalogue d m)
+      (subst (λ x. Needs g.catalogue (table_in_force g log) (attempt_task c) (D (dm_no x))) r.at_is (read_needs c r.read class r.there))),
+)
 
 -- the classes are closed of which all is up for which they wait
-pub passings_closed : (g : Input) (log : Log) → IsPermitted g log → IsClosed g log (PassingsUp g log)
-passings_closed g log h = record {
-  asks = λ c j up w z class. asks_up g log j h z class (of_passing g log j (up j w));
+pub passings_closed : (g : Input) (log : Log) → IsSoundCatalogue g.catalogue → IsPermitted g log → IsClosed g log (PassingsUp g log)
+passings_closed g log sound h = record {
+  asks = λ c j up w z class. asks_up g log j sound h z class (of_passing g log j (up j w));
   writer = λ c j up w. of_attempt g log j (of_passing g log j (up j w));
   holder = λ c j r up w v. of_held g log j r (up j w) v;
 }
 
--- the modules that the attempts ask are up, of each declared class
+-- the transaction module is up, and so are the modules that the attempts ask, of each declared class
 abbrev pub AllAskUp : Input → Log → Type 0
 AllAskUp g log = (j : ℕ) → (j == 0) ≡ false → IsClass g.catalogue j → AsksUp g log j
 

@@ -1,4 +1,4 @@
--- What an outage of data modules leaves undone.
+-- What an outage of modules leaves undone.
 use Rattle.sdd_progress.proofs.All.{AppliedBefore, AreSubmittedOnce, Attempt, Bases, Committed, CostsNoMore, D, Does, HasSoundLists, Input, IsApplied, IsClass, IsCommitted, IsIdleAtRedeclares, IsLawful, IsPermitted, IsSoundCatalogue, IsSoundList, IsStill, IsSubmittedIn, Log, NeedsAreUp, None, Records, Rests, Some, U, UndeclaredAreDone, WasCommitted, [], active, all_links, ap, arith, at_home, attempt_task, calls_of, commit_act, commit_of_log, complete_parts, dm_no, has_copy, head_of, history, home, is_down, keeps_applies, lawful_permitted, length, local_of, next, none_to_hand, not_zero, passing_task, queue, quiet, redeclares, setting_of, subst, sym, true, false, ℕ, ◌++◌, ◌==◌, ◌∙◌, ◌∷◌, ◌≡◌, ◌≤◌}
 use Rattle.sdd_lawful.proofs.Applied.{applied_there, apply_in, apply_rec}
 use Rattle.sdd_lawful.proofs.Committed.{same_committed}
@@ -8,7 +8,7 @@ use Rattle.sdd_progress.proofs.Committed.{at_home_by, committed_where_none_queue
 use Rattle.sdd_progress.proofs.Copies.{applied_at}
 use Rattle.sdd_progress.proofs.Dones.{AreServedApplied}
 use Rattle.sdd_progress.proofs.Finished.{none_queued, off_hold_at}
-use Rattle.sdd_progress.proofs.NeededModules.{PassingsUp, passing_moves, passings_closed}
+use Rattle.sdd_progress.proofs.NeededModules.{PassingsUp, home_up, passing_moves, passings_closed}
 use Rattle.sdd_progress.proofs.NoneWaits.{none_under_way, none_unprocessed}
 
 -- where the links are quiet, nothing goes on between events, nor at the end
@@ -58,17 +58,18 @@ module _ (g : Input) (log : Log) (h : IsStill g log) (lists : HasSoundLists g lo
       let class : IsClass g.catalogue c = subst (IsClass g.catalogue) x.1 x.0.class_is in
       let of : IsClassOf g.catalogue c = record { from = from; to = class } in
       let applied = served_applied g log sound h.permitted undeclared in
-      let off = off_hold_at g log c h sound applied (ap head_of undeclared.none_pending) z class in
-      let none = none_queued g log c h sound z class off (none_under_way g log h one marks c z of up) in
+      let part = home_up g log c sound z of up in
+      let off = off_hold_at g log c h sound applied (ap head_of undeclared.none_pending) z class part in
+      let none = none_queued g log c h sound z class part off (none_under_way g log h one marks c z of up) in
       committed_where_none_queued g log n h.permitted x.0
       (subst (λ k. queue (setting_of g (home g.catalogue k)) k (at_home g k log) ≡ []) (sym x.1) none)
 
   change_applied : (t : Committed) (f d : ℕ) → IsCommitted (history log) t → 1 ≤ t.start.class → changes t f ≡ true
-      → has_copy g.catalogue d f ≡ true → is_down d log ≡ false → NeedsAreUp g log (passing_task t.start.class)
+      → has_copy g.catalogue d f ≡ true → is_down (D (dm_no d)) log ≡ false → NeedsAreUp g log (passing_task t.start.class)
       → AppliedBefore (history log) t.start.txn d (length (history log))
   change_applied t f d c from e copied up needs =
       applied_at g log t f d one.fits.sound h lists c e copied up
-      (λ within m. none_unprocessed g log h one marks (PassingsUp g log) (passings_closed g log h.permitted) t.start.class d
+      (λ within m. none_unprocessed g log h one marks (PassingsUp g log) (passings_closed g log one.fits.sound h.permitted) t.start.class d
       (not_zero t.start.class from) within m up
       (passing_moves g log t.start.class d needs))
 

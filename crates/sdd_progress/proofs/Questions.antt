@@ -1,6 +1,6 @@
 -- An ASK that was handed to a transaction module is open, or a NULL at its time or later was put; and where nothing is due, an
 -- ASK that is open has a class with an active attempt before its time.
-use Rattle.sdd_progress.proofs.All.{Act, AllByRecursion, AreOpen, Ask, Attempt, Bases, Bool, Catalogue, ClassNo, Did, Each, Handed, Held, IsDue, IsFairT, IsThere, List, Msg, None, Null, Option, Question, Queued, Records, Redeclared, Rise, Sends, Setting, Site, Some, Submits, Ticked, Ts, U, [], active, answers_hand, ap, arith, asks, asks_handed, at_map, at_seam, attempt_due, bound_of, by_ask, by_exchange, by_hold, by_start, class_no, clock, clock_rises, eqb-true, false, first_some, hands, hands_from, head_of, holds, if◌then◌else◌, in_either, in_filtered, in_left, in_one, in_right, inl, inr, leb-false, leb-true, length, nat_le, not, null_at, null_due, null_time, null_to, open_did, open_handed, puts_to, refl, runs, same_number, same_site, sends_of_act, site_is, site_self, slice_get, start_of, subst, suc, sym, time_at, to_site, true, zero, ℕ, ◌++◌, ◌+◌, ◌<◌, ◌==◌, ◌∙◌, ◌∷◌, ◌≡◌, ◌≢◌, ◌≤◌, ◌⊎◌}
+use Rattle.sdd_progress.proofs.All.{Act, AllByRecursion, AreOpen, Ask, Attempt, Bases, Bool, Catalogue, ClassNo, Did, Each, Handed, Held, IsDue, IsFairT, IsThere, List, Msg, None, Null, Option, Question, Queued, Records, Redeclared, Rise, Sends, Setting, Site, Some, Submits, Ticked, Ts, U, [], active, answers_hand, ap, arith, asks, asks_handed, at_map, at_seam, attempt_due, bound_of, by_ask, by_exchange, by_hold, by_start, class_no, clock, clock_rises, eqb-true, false, first_some, hands, hands_from, head_of, holds, if◌then◌else◌, in_either, in_filtered, in_left, in_one, in_right, inl, inr, leb-false, leb-true, length, nat_le, not, null_at, null_due, null_time, null_to, open_did, open_handed, puts_to, refl, runs, same_number, same_site, sends_of_act, site_is, site_self, slice_get, start_of, subst, suc, sym, time_at, to_site, true, zero, ℕ, ◌++◌, ◌<◌, ◌==◌, ◌∙◌, ◌∷◌, ◌≡◌, ◌≢◌, ◌≤◌, ◌⊎◌}
 use Rattle.sdd_progress.proofs.Lists.{kept_there, none_at}
 use Rattle.sdd_obligations.specs.All.{class_view}
 use Rattle.sdd_obligations.specs.site_module.SiteLog.{Log}

@@ -1,5 +1,5 @@
 -- A complete log at whose end the links are quiet is one at which nothing goes on; and it is, where a settle is the last.
-use Rattle.sdd_progress.proofs.All.{AllCommitted, AreSubmittedOnce, Event, HasSoundLists, Input, IsAtEnd, IsFinished, IsModule, IsQuiet, IsSettled, List, Log, Rests, Settle, SubmitGiven, [], all_links, ap, arith, calls_of, complete_parts, false, history, is_down, lawful_numbered, lawful_permitted, none_to_hand, quiet, quiet_at_last, redeclares, subst, true, with_event, ℕ, ◌++◌, ◌∷◌, ◌≡◌}
+use Rattle.sdd_progress.proofs.All.{AllCommitted, AreSubmittedOnce, Event, HasSoundLists, Input, IsAtEnd, IsFinished, IsModuleOf, IsQuiet, IsSettled, List, Log, Rests, Settle, Site, SubmitGiven, [], all_links, ap, arith, calls_of, complete_parts, false, history, is_down, lawful_numbered, lawful_permitted, none_to_hand, quiet, quiet_at_last, redeclares, subst, true, with_event, ◌++◌, ◌∷◌, ◌≡◌}
 use Rattle.sdd_progress.proofs.Committed.{all_committed}
 use Rattle.sdd_progress.proofs.Finished.{finished}
 use Rattle.sdd_progress.proofs.IdleAtRedeclares.{idle_at_redeclares}
@@ -7,7 +7,7 @@ use Rattle.sdd_progress.proofs.NoneWaits.{is_idle}
 
 -- between events
 pub resting_is_quiet : (g : Input) (log : Log) → AreSubmittedOnce g.events → Rests g log → quiet (all_links g) (calls_of log) ≡ true
-    → ((d : ℕ) → IsModule g.catalogue d → is_down d log ≡ false) → IsQuiet g log
+    → ((at : Site) → IsModuleOf g at → is_down at log ≡ false) → IsQuiet g log
 resting_is_quiet g log once r links up = grind (arith, lawful_permitted, none_to_hand)
 
 -- and at the end

@@ -1,7 +1,7 @@
 -- A READ that waits is of an attempt that started since the last class list was put in force, where all was idle then.
 use Rattle.sdd_progress.proofs.All.{ClassNo, Cond, D, Did, Does, Entry, Input, IsClass, IsIdle, IsIdleAtRedeclares, IsModule, IsPermitted, IsPutAt, IsQuiet, IsSoundCatalogue, List, Log, Msg, Read, Redeclares, Site, Some, Ts, TxnNo, Use, [], ap, append-nil, append_assoc, arith, at_module, class_number, class_puts, dm_no, head, head_place, home, home_small, in_class, in_pipe_later, inl, inr, is_put, length, local_at, local_grows, local_of, one_of_key, own_made, pipe, place_within, processed_grows, processed_stays, puts_to, read_at, reads_strict, redeclares, refl, same_number, slice_get, subst, sym, true, ℕ, ◌++◌, ◌==◌, ◌∙◌, ◌∷◌, ◌≡◌, ◌≤◌, ◌⊎◌}
 use Rattle.sdd_progress.proofs.Applied.{pipe_has_all}
-use Rattle.sdd_progress.proofs.Still.{still_of}
+use Rattle.sdd_progress.proofs.Still.{module_up, still_of}
 
 -- a longer log puts no fewer lists in force
 
@@ -46,7 +46,7 @@ not_put_by g log later mid between c d ts of txn attempt conds uses h sound l m 
     let i = in_class c (puts_to (D (dm_no d)) (local_of g here mid)) q.0 x there p.of_class in
     let pm = pipe c (at_module g d mid) in
     let all : class_puts g c (dm_no d) mid ≡ pm.processed =
-    sym (pipe_has_all g mid c d (still_of g mid quiet) sound l m (quiet.up d m)) ∙ ap (λ ms. pm.processed ++ ms) (idle.processed c d l m) ∙ append-nil pm.processed in
+    sym (pipe_has_all g mid c d (still_of g mid quiet) sound l m (module_up g mid d quiet m)) ∙ ap (λ ms. pm.processed ++ ms) (idle.processed c d l m) ∙ append-nil pm.processed in
     let done : slice_get pm.processed i.0 ≡ Some x = subst (λ ms. slice_get ms i.0 ≡ Some x) all i.1 in
     let grown = in_pipe_later g c (dm_no d) later mid quiet.permitted in
     let at1 : slice_get (class_puts g c (dm_no d) log) i.0 ≡ Some x =

@@ -1,5 +1,5 @@
 -- What all sites have left to do, and how many messages are left to be handed over.
-use Rattle.sdd_progress.proofs.AllEnds.{Act, D, Did, Does, Entry, Hand, Input, IsPermitted, Log, Msg, Setting, Site, Some, T, U, all_links, all_new, and_left, and_right, arith, base_of, delivered, delivered_puts, hand_on, handed, inl, inr, link_of, local_of, next_at, number_is, same_Some, same_here, same_is, same_site, setting_of, sites, slice_get, subst, suc, sym, t_fair, true, true_or_false, u_fair, ℕ, ◌&&◌, ◌-◌, ◌<◌, ◌∷◌, ◌≡◌, ◌≤◌}
+use Rattle.sdd_progress.proofs.AllEnds.{Act, D, Did, Does, Entry, Hand, Input, IsPermitted, Log, Msg, Setting, Site, Some, T, U, all_links, all_new, and_left, and_right, arith, base_of, delivered, delivered_puts, hand_on, handed, inl, inr, link_of, local_of, next_at, number_is, same_Some, same_here, same_is, same_site, setting_of, sites, slice_get, some_in, subst, suc, sym, t_fair, true, true_or_false, u_fair, ℕ, ◌&&◌, ◌-◌, ◌<◌, ◌∷◌, ◌≡◌, ◌≤◌}
 use Rattle.sdd_progress.proofs.AtD.{d_falls, d_work}
 use Rattle.sdd_progress.proofs.AtT.{t_falls, t_work}
 use Rattle.sdd_progress.proofs.AtU.{u_falls, u_work}
@@ -21,13 +21,13 @@ act_falls : (g : Input) (log : Log) (at : Site) (act : Act) → IsPermitted g lo
     → site_work (setting_of g at) at (Did act ∷ local_of g at log) < site_work (setting_of g at) at (local_of g at log)
 act_falls g log U act h e =
     u_falls (setting_of g U) (base_of g log) (local_of g U log) (u_fair g log h) (all_new g U log h) act
-    (um.next_is_due g.catalogue (base_of g log) (um_views.view_of (setting_of g U) (local_of g U log)) act e)
+    (um.next_is_due g.catalogue (base_of g log) (um_views.view_of (setting_of g U) (local_of g U log)) act (some_in g log U act e))
 act_falls g log (T t) act h e =
     t_falls (setting_of g (T t)) (base_of g log) (local_of g (T t) log) (t_fair g t log h) (all_new g (T t) log h) act
-    (tm.next_is_due g.catalogue (base_of g log) (tm_views.view_of (setting_of g (T t)) (local_of g (T t) log)) act e)
+    (tm.next_is_due g.catalogue (base_of g log) (tm_views.view_of (setting_of g (T t)) (local_of g (T t) log)) act (some_in g log (T t) act e))
 act_falls g log (D d) act h e =
     d_falls (setting_of g (D d)) (local_of g (D d) log) act
-    (dm.next_is_due (dm_views.home_of (setting_of g (D d))) (dm_views.view_of (setting_of g (D d)) (local_of g (D d) log)) act e)
+    (dm.next_is_due (dm_views.home_of (setting_of g (D d))) (dm_views.view_of (setting_of g (D d)) (local_of g (D d) log)) act (some_in g log (D d) act e))
 
 -- of all sites
 

@@ -1,21 +1,21 @@
--- Where each `redeclare` is given when it may be, a lawful log has no data module down where it puts a class list in
+-- Where each `redeclare` is given when it may be, a lawful log has no module down where it puts a class list in
 -- force, and puts none in force beyond those that are given.
-use Rattle.sdd_progress.proofs.All.{AllFewTicks, AreDone, AreTimely, Event, Input, IsLawful, IsModule, IsUpAtRedeclares, List, Log, Redeclare, Redeclares, Some, [], all_links, ap, append-nil, append_assoc, arith, calls_of, count_join, done, down_join, false, is_down, is_down_after, lawful_end, left, length, listed_first, mark_of, next_is_of_events, quiet, redeclares, redeclares_in, refl, round, settles_turn, subst, sym, ℕ, ◌++◌, ◌+◌, ◌<◌, ◌∙◌, ◌∷◌, ◌≡◌, ◌≤◌}
+use Rattle.sdd_progress.proofs.All.{AllFewTicks, AreDone, AreTimely, Event, Input, IsLawful, IsModuleOf, IsUpAtRedeclares, List, Log, Redeclare, Redeclares, Site, Some, [], all_links, ap, append-nil, append_assoc, arith, calls_of, count_join, done, down_join, false, is_down, is_down_after, lawful_end, left, length, listed_first, mark_of, next_is_of_events, quiet, redeclares, redeclares_in, refl, round, settles_turn, subst, sym, ℕ, ◌++◌, ◌+◌, ◌<◌, ◌∙◌, ◌∷◌, ◌≡◌, ◌≤◌}
 
--- no data module is down
+-- no module is down
 
 up_there : (g : Input) (log : Log) (t : ℕ) (s : List Event × List Event) → mark_of g log s ≡ Some (Redeclares t)
-    → AreDone g (λ d. is_down d log) (redeclares log) s → AreTimely g → (d : ℕ) → IsModule g.catalogue d → is_down d log ≡ false
-up_there g log t (ws, []) m i timely d here =
+    → AreDone g (λ at. is_down at log) (redeclares log) s → AreTimely g → (at : Site) → IsModuleOf g at → is_down at log ≡ false
+up_there g log t (ws, []) m i timely at here =
     let f = listed_first g log (quiet (all_links g) (calls_of log)) (round (all_links g) (calls_of log)) ws t m in
-    i.1.downs d ∙ sym (settles_turn d (is_down_after d i.1.front) f.skip f.settles) ∙ sym (down_join d false i.1.front f.skip)
-    ∙ (timely (i.1.front ++ f.skip) f.rest (i.1.is ∙ ap (λ z. i.1.front ++ z) f.is ∙ sym (append_assoc i.1.front f.skip (Redeclare ∷ f.rest)))).up d here
-up_there g log t (ws, x ∷ r) m i timely d here = absurd (cc)
+    i.1.downs at ∙ sym (settles_turn at (is_down_after at i.1.front) f.skip f.settles) ∙ sym (down_join at false i.1.front f.skip)
+    ∙ (timely (i.1.front ++ f.skip) f.rest (i.1.is ∙ ap (λ z. i.1.front ++ z) f.is ∙ sym (append_assoc i.1.front f.skip (Redeclare ∷ f.rest)))).up at here
+up_there g log t (ws, x ∷ r) m i timely at here = absurd (cc)
 
 pub up_at_redeclares : (g : Input) (log : Log) → AllFewTicks g.events → IsLawful g log → AreTimely g → IsUpAtRedeclares g log
-up_at_redeclares g log few h timely later before t is d here =
+up_at_redeclares g log few h timely later before t is at here =
     let k = lawful_end g later (Redeclares t ∷ before) (subst (IsLawful g) is h) in
-    up_there g before t (left g.events before) (next_is_of_events g before (Redeclares t) refl k.0) (done g before few k.1) timely d here
+    up_there g before t (left g.events before) (next_is_of_events g before (Redeclares t) refl k.0) (done g before few k.1) timely at here
 
 -- and a list is left
 

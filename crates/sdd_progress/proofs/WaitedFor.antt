@@ -1,9 +1,9 @@
 -- Where nothing goes on, a READ that waits at a module that is up does so because of another READ that waits at one: an
 -- earlier one of the class that it waits for, or one that holds back a WRITE of that class; if the modules are up that the
 -- class asks.
-use Rattle.sdd_progress.proofs.All.{Ask, Attempt, Change, ClassNo, ClassView, Cond, D, FitsInput, Input, IsBelow, IsClass, IsEarlierReader, IsHolder, IsModule, IsReader, IsRising, IsStill, IsStuck, IsThere, List, Log, Msg, None, Null, Option, Read, Setting, Site, Some, T, Ts, TxnNo, View, Write, [], active, all_of, and_left, and_right, any_at, ap, append-nil, append_assoc, arith, ask_for, at_home, at_map, at_module, class_at_place, class_in, class_in_view, class_rises, d_fair, dm_no, eqb-true, false, goes_through, hands_from, head, head_below, head_of, head_stuck, holds_back, home, home_of, if◌then◌else◌, inl, inr, is_down, is_met, is_put, le_is, least_at, list_any, local_of, map, nat_le, not, not_both, passed, passed_lasts, pipe, place_within, positive, puts_to, reached_is_passed, read_time, refl, same_number, same_site, sends_of_act, setting_of, since, site_self, slice_get, small_home, source_is_home, source_of, subst, suc, sym, t_table, time_of, tm_no, to_site, touches, true, true_or_false, view_of, waits, zero, ℕ, ◌&&◌, ◌++◌, ◌<◌, ◌==◌, ◌∙◌, ◌∷◌, ◌≡◌, ◌≤◌, ◌⊎◌}
+use Rattle.sdd_progress.proofs.All.{Ask, Attempt, Change, ClassNo, ClassView, Cond, D, FitsInput, Input, IsBelow, IsClass, IsEarlierReader, IsHolder, IsModule, IsReader, IsRising, IsStill, IsStuck, IsThere, List, Log, Msg, None, Null, Option, Read, Setting, Site, Some, T, Ts, TxnNo, View, Write, [], active, all_of, and_left, and_right, any_at, ap, append-nil, append_assoc, arith, ask_for, at_home, at_map, at_module, class_at_place, class_in, class_in_view, class_rises, d_fair, dm_no, eqb-true, false, goes_through, hands_from, head, head_below, head_of, head_stuck, holds_back, home, home_of, if◌then◌else◌, inl, inr, is_down, is_met, is_put, le_is, least_at, list_any, local_of, map, nat_le, not, not_both, passed, passed_lasts, pipe, place_within, positive, puts_to, reached_is_passed, read_time, refl, same_number, same_site, sends_of_act, setting_of, since, site_self, slice_get, small_home, source_is_home, source_of, subst, suc, sym, t_table, takes_part, time_of, tm_no, to_site, touches, true, true_or_false, view_of, waits, zero, ℕ, ◌&&◌, ◌++◌, ◌<◌, ◌==◌, ◌∙◌, ◌∷◌, ◌≡◌, ◌≤◌, ◌⊎◌}
 use Rattle.sdd_progress.proofs.Applied.{pipe_has_all}
-use Rattle.sdd_progress.proofs.Handed.{all_handed, home_part}
+use Rattle.sdd_progress.proofs.Handed.{all_handed}
 use Rattle.sdd_progress.proofs.Lacking.{AsksUp, has_unanswered}
 use Rattle.sdd_progress.proofs.Lists.{kept_there, no_head}
 use Rattle.sdd_progress.proofs.Questions.{covered, open_is_blocked}
@@ -14,30 +14,30 @@ use Rattle.sdd_obligations.specs.site_module.SiteLog as site
 -- times in pipes
 
 pub pipe_rises : (g : Input) (log : Log) (c d : ℕ) → IsStill g log → FitsInput g → IsClass g.catalogue c → IsModule g.catalogue d
-    → is_down d log ≡ false → IsRising (map time_of (all_of (pipe c (at_module g d log))))
+    → is_down (D (dm_no d)) log ≡ false → IsRising (map time_of (all_of (pipe c (at_module g d log))))
 pipe_rises g log c d h good l m up =
     subst (λ ms. IsRising (map time_of ms)) (sym (pipe_has_all g log c d h good.sound l m up))
     (class_rises g c (dm_no d) log h.permitted (small_home g.catalogue good.sound c l))
 
-first_le : (ms : List Msg) (k : ℕ) (x m : Msg) → IsRising (map time_of ms) → head_of ms ≡ Some x → slice_get ms k ≡ Some m → time_of x ≤ time_of m
+pub first_le : (ms : List Msg) (k : ℕ) (x m : Msg) → IsRising (map time_of ms) → head_of ms ≡ Some x → slice_get ms k ≡ Some m → time_of x ≤ time_of m
 first_le [] k x m h e f = cc
 first_le (y ∷ ms) zero x m h e f = let p : y ≡ x = cc in let q : y ≡ m = cc in let same : time_of x ≡ time_of m = ap time_of (sym p ∙ q) in omega (arith, same)
 first_le (y ∷ ms) (suc k) x m h e f =
     let p : y ≡ x = cc in
     omega (arith, least_at (time_of y) ms k m h.0 f, ap time_of p)
 
-rising_right : (xs ys : List Msg) → IsRising (map time_of (xs ++ ys)) → IsRising (map time_of ys)
+pub rising_right : (xs ys : List Msg) → IsRising (map time_of (xs ++ ys)) → IsRising (map time_of ys)
 rising_right [] ys h = h
 rising_right (x ∷ xs) ys h = rising_right xs ys h.1
 
-some_head : (ms : List Msg) (k : ℕ) (m : Msg) → slice_get ms k ≡ Some m → (x : Msg) × (head_of ms ≡ Some x)
+pub some_head : (ms : List Msg) (k : ℕ) (m : Msg) → slice_get ms k ≡ Some m → (x : Msg) × (head_of ms ≡ Some x)
 some_head [] k m e = cc
 some_head (x ∷ ms) k m e = (x, refl)
 
 -- the message of class j that is next at a module that is up has a time before t
 pub record IsBelowUp (g : Input) (log : Log) (j t : ℕ) : Type 0 where
   pub here : IsBelow g log j t
-  pub up : is_down here.d log ≡ false
+  pub up : is_down (D (dm_no here.d)) log ≡ false
 
 -- an active attempt before t keeps a message before t next at some module
 below_attempt : (g : Input) (log : Log) (c : ℕ) (a : Attempt) (t : ℕ) → IsStill g log → FitsInput g → IsClass g.catalogue c → AsksUp g log c
@@ -57,7 +57,7 @@ in_class : (c : ℕ) (ms : List Msg) (k : ℕ) (m : Msg) → slice_get ms k ≡ 
 in_class c ms k m e f = kept_there (goes_through c) ms k m e f
 
 put_in_pipe : (g : Input) (log : Log) (c d k : ℕ) (m : Msg) → IsStill g log → FitsInput g → IsClass g.catalogue c → IsModule g.catalogue d
-    → is_down d log ≡ false → slice_get (puts_to (D (dm_no d)) (at_home g c log)) k ≡ Some m → goes_through c m ≡ true → IsThere (all_of (pipe c (at_module g d log))) m
+    → is_down (D (dm_no d)) log ≡ false → slice_get (puts_to (D (dm_no d)) (at_home g c log)) k ≡ Some m → goes_through c m ≡ true → IsThere (all_of (pipe c (at_module g d log))) m
 put_in_pipe g log c d k m h good l w up e f =
     subst (λ ms. IsThere ms m) (sym (pipe_has_all g log c d h good.sound l w up)) (in_class c (puts_to (D (dm_no d)) (at_home g c log)) k m e f)
 
@@ -66,21 +66,23 @@ put_in_pipe g log c d k m h good l w up e f =
 asked : (g : Input) (log : Log) (j d n : ℕ) (c : ClassNo) (t : Ts) → IsStill g log → FitsInput g
     → IsModule g.catalogue d → (j == 0) ≡ false → IsClass g.catalogue j
     → c.0 ≡ j → slice_get (puts_to (home g.catalogue j) (at_module g d log)) n ≡ Some (Ask c t) → passed (pipe j (at_module g d log)) t.0 ≡ false
-    → head (pipe j (at_module g d log)) ≡ None → is_down d log ≡ false → AsksUp g log j → IsBelowUp g log j t.0
+    → head (pipe j (at_module g d log)) ≡ None → is_down (D (dm_no d)) log ≡ false → AsksUp g log j → IsBelowUp g log j t.0
 asked g log j d n c t h good m z l same put not_yet empty up ups =
     let run = run_at g.catalogue j good.sound z l in
     let at : Site = T (tm_no run.t) in
     let lt : site.Log = local_of g at log in
     let linked = home_linked g.catalogue j d good.sound l m in
     let got : slice_get (hands_from (D (dm_no d)) (at_home g j log)) n ≡ Some (Ask c t) =
-    ap (λ ms. slice_get ms n) (all_handed g log (D (dm_no d)) (home g.catalogue j) h (home_part g.catalogue j log) linked.1) ∙ put in
+    ap (λ ms. slice_get ms n) (all_handed g log (D (dm_no d)) (home g.catalogue j) h ups.0 linked.1) ∙ put in
     let here : slice_get (hands_from (D (dm_no d)) lt) n ≡ Some (Ask c t) =
     subst (λ x. slice_get (hands_from (D (dm_no d)) (local_of g x log)) n ≡ Some (Ask c t)) run.home_is
     got in
     let place = runs_place g j run.t (positive j z) l run.number_is in
     elim (covered (setting_of g at) (D (dm_no d)) lt (t_table g (tm_no run.t) log h.permitted) n c t here) [
       | inl o ↦ (
-          let e = open_is_blocked (setting_of g at) lt place.0 j o.question place.1 (t_still g log run.t h run.from run.to).nulls o.there (o.class ∙ same) in
+          let part = subst (λ x. takes_part x log ≡ true) run.home_is ups.0 in
+          let e = open_is_blocked (setting_of g at) lt place.0 j o.question place.1 (t_still g log run.t h run.from run.to part).nulls o.there
+          (o.class ∙ same) in
           let mine : active (setting_of g (home g.catalogue j)) j (at_home g j log) ≡ Some e.attempt =
           subst (λ x. active (setting_of g x) j (local_of g x log) ≡ Some e.attempt) (sym run.home_is) e.active_is in
           let b = e.below in
@@ -120,8 +122,8 @@ conds_of _ = []
 
 -- what a READ that waits lacks now it lacked when it began to wait
 ask_put : (g : Input) (log : Log) (c ts : ℕ) (conds : List Cond) (r : IsReader g log c ts conds) (n : ℕ) (x : Cond) → IsStill g log → FitsInput g
-    → is_down r.d log ≡ false → slice_get conds n ≡ Some x → IsClass g.catalogue x.class.0 → passed (pipe x.class.0 (at_module g r.d log)) x.time.0 ≡ false
-    → (k : ℕ) × (slice_get (puts_to (home g.catalogue x.class.0) (at_module g r.d log)) k ≡ Some (Ask x.class x.time))
+    → is_down (D (dm_no r.d)) log ≡ false → slice_get conds n ≡ Some x → IsClass g.catalogue x.class.0
+    → passed (pipe x.class.0 (at_module g r.d log)) x.time.0 ≡ false → (k : ℕ) × (slice_get (puts_to (home g.catalogue x.class.0) (at_module g r.d log)) k ≡ Some (Ask x.class x.time))
 ask_put g log c ts conds r n x h good up e l not_yet =
     let s : Setting = setting_of g (D (dm_no r.d)) in
     let lm : site.Log = at_module g r.d log in
@@ -154,7 +156,7 @@ ask_put g log c ts conds r n x h good up e l not_yet =
 
 -- the class for which a READ waits has a message before that time next at some module
 pub next_head : (g : Input) (log : Log) (c ts : ℕ) (conds : List Cond) (r : IsReader g log c ts conds) (n : ℕ) (x : Cond) → IsStill g log → FitsInput g
-    → is_down r.d log ≡ false → AsksUp g log x.class.0 → slice_get conds n ≡ Some x → (x.class.0 == 0) ≡ false → IsClass g.catalogue x.class.0
+    → is_down (D (dm_no r.d)) log ≡ false → AsksUp g log x.class.0 → slice_get conds n ≡ Some x → (x.class.0 == 0) ≡ false → IsClass g.catalogue x.class.0
     → is_met (view_of (setting_of g (D (dm_no r.d))) (at_module g r.d log)) x ≡ false → IsBelowUp g log x.class.0 x.time.0
 next_head g log c ts conds r n x h good up ups e z l unmet =
     let j : ℕ = x.class.0 in
@@ -228,9 +230,9 @@ by_head g log j t d (Write w of txn changes) l p e b stuck =
     inr (held_by g log j t d c.0 w of txn changes (head (pipe c.0 (at_module g d log))) p (omega (arith, c.1)) e b (and_left _ _ f) refl (and_right _ _ f))
 by_head g log j t d m l p e b stuck = absurd stuck
 
-pub next_reader : (g : Input) (log : Log) (j t : ℕ) → IsStill g log → IsClass g.catalogue j → (b : IsBelow g log j t)
+pub next_reader : (g : Input) (log : Log) (j t : ℕ) → IsStill g log → IsClass g.catalogue j → (b : IsBelow g log j t) → is_down (D (dm_no b.d)) log ≡ false
     → IsEarlierAt g log j t b.d ⊎ IsHolderAt g log j t b.d
-next_reader g log j t h l b =
+next_reader g log j t h l b up =
     let s : Setting = setting_of g (D (dm_no b.d)) in
-    let stuck = head_stuck s (at_module g b.d log) j (omega (arith, l)) (d_still g log b.d h b.module_is) in
+    let stuck = head_stuck s (at_module g b.d log) j (omega (arith, l)) (d_still g log b.d h b.module_is up) in
     by_head g log j t b.d b.message l b.module_is b.head_is b.below (subst (IsStuck s (at_module g b.d log) j) b.head_is stuck)

@@ -121,4 +121,4 @@ worked_apply =
 
 -- the class is idle then, and nothing is queued
 pub worked_idle : queue (setting_of putting (T (tm_no 1))) 1 (local_of putting (T (tm_no 1)) (extended 7 putting [])) ≡ []
-worked_idle = idle_starts putting 1 (extended 7 putting []) (record { sound = sound; once = λ n. (let h = one_at_most (1 == n) in omega arith); lawful = made_lawful 7 putting [] tt; over = refl }) (record { from = lit≤ tt; to = lit≤ tt }) refl refl
+worked_idle = idle_starts putting 1 (extended 7 putting []) (record { sound = sound; once = λ n. (let h = one_at_most (1 == n) in omega arith); lawful = made_lawful 7 putting [] tt; over = refl }) (record { from = lit≤ tt; to = lit≤ tt }) refl refl refl

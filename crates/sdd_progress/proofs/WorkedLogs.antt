@@ -1,6 +1,6 @@
 -- Worked logs that meet what the laws ask. Two classes, each of which reads what the other writes: a query waits until the
 -- other class has passed its time, and is answered then; or it comes after a later put, and is rejected.
-use Rattle.sdd_progress.proofs.AllWaits.{Act, AreConditionsOf, AreSubmittedOnce, Catalogue, Cond, Const, D, Deliver, Diagonal, Does, Era, Event, Input, Int, IsAnsweredIn, IsLawful, IsRejectOf, IsSoundCatalogue, IsStuck, Le, List, Log, None, P1, P3, Put, Query, Read, Records, Reject, Rejected, Setting, Some, Submit, T, Txn, Use, Vertical, WaitsSince, [], arith, class_no, d_fair, dm_no, extended, frag_no, lawful_permitted, lit<, lit≤, local_of, negsuc, next, one_at_most, passed, pipe_at, pos, refl, rel_no, same_or_not, setting_of, suc, take, time_at, tm_no, true, txn_no, zero, ℕ, ◌++◌, ◌+◌, ◌==◌, ◌∷◌, ◌≡◌, ◌≢◌, ◌≤◌}
+use Rattle.sdd_progress.proofs.AllWaits.{Act, AreConditionsOf, AreSubmittedOnce, Catalogue, Cond, Const, D, Deliver, Diagonal, Does, Era, Event, Input, Int, IsAnsweredIn, IsLawful, IsRejectOf, IsSoundCatalogue, IsStuck, Le, List, Log, None, P1, P3, Put, Query, Read, Records, Reject, Rejected, Setting, Some, Submit, T, Txn, Use, Vertical, WaitsSince, [], arith, class_no, d_fair, dm_no, extended, frag_no, lawful_permitted, lit<, lit≤, local_of, negsuc, next, one_at_most, passed, pipe_at, pos, refl, rel_no, same_or_not, setting_of, suc, take, time_at, tm_no, true, txn_no, zero, ℕ, ◌++◌, ◌==◌, ◌∷◌, ◌≡◌, ◌≢◌}
 use Rattle.sdd_obligations.specs.catalog.Rules.{faults_of}
 use Rattle.sdd_progress.proofs.FromTable.{conditions_of}
 use Rattle.sdd_progress.proofs.OfLawful.{answered}

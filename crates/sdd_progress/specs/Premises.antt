@@ -1,6 +1,6 @@
 -- What is needed of what is given, and of a log, so that a log at which nothing goes on is finished.
 use Rattle.std.specs.Prelude.{ℕ, ◌≡◌, ◌≤◌, ◌++◌, ◌∷◌, false}
-use Rattle.sdd_obligations.specs.All.{FitsInput, Input, IsEra, IsEraOf, IsModule, Log, Redeclares, is_down, nth_era, redeclares}
+use Rattle.sdd_obligations.specs.All.{FitsInput, Input, IsEra, IsEraOf, IsModuleOf, Log, Redeclares, Site, is_down, nth_era, redeclares}
 use Rattle.sdd_progress.specs.Finished.{IsIdle}
 use Rattle.sdd_progress.specs.Quiet.{IsQuiet}
 
@@ -18,10 +18,10 @@ HasSoundLists g log = (k : ℕ) → k ≤ redeclares log → IsSoundList g k
 abbrev pub IsIdleAtRedeclares : Input → Log → Type 0
 IsIdleAtRedeclares g log = (later before : Log) (t : ℕ) → log ≡ later ++ Redeclares t ∷ before → IsQuiet g before × IsIdle g before
 
--- and no data module was down
+-- and no module was down
 abbrev pub IsUpAtRedeclares : Input → Log → Type 0
 IsUpAtRedeclares g log =
-    (later before : Log) (t : ℕ) → log ≡ later ++ Redeclares t ∷ before → (d : ℕ) → IsModule g.catalogue d → is_down d before ≡ false
+    (later before : Log) (t : ℕ) → log ≡ later ++ Redeclares t ∷ before → (at : Site) → IsModuleOf g at → is_down at before ≡ false
 
 -- what is given fits its catalogue, and the list in force at the beginning, which is that of the catalogue, has its
 -- protocol table

@@ -1,20 +1,25 @@
 -- Logs at which nothing goes on: nothing is under way on a link, and nothing is due at a site.
 use Rattle.std.specs.Prelude.{ℕ, ◌≡◌, false, true, None}
-use Rattle.sdd_obligations.specs.All.{D, Input, IsModule, IsPermitted, Log, all_links, calls_of, dm_no, hand_due, home, is_down, local_of, quiet, site_due}
+use Rattle.sdd_obligations.specs.All.{D, Input, IsModuleOf, IsPermitted, Log, Site, T, all_links, calls_of, dm_no, hand_due, home, is_down, local_of, quiet, site_due, tm_no}
 use Rattle.sdd_obligations.specs.site_module.SiteLog as site
 
--- nothing is in flight and nothing unacknowledged, and neither an act nor a hand is due; data modules may be down
+-- no transaction module is down
+abbrev pub TmsAreUp : Input → Log → Type 0
+TmsAreUp g log = (t : ℕ) → IsModuleOf g (T (tm_no t)) → is_down (T (tm_no t)) log ≡ false
+
+-- Nothing is in flight and nothing unacknowledged, and neither an act nor a hand is due. Modules may be down: what waits at
+-- one isn't due.
 pub record IsStill (g : Input) (log : Log) : Type 0 where
   pub permitted : IsPermitted g log
   pub links : quiet (all_links g) (calls_of log) ≡ true
   pub no_act : site_due g log ≡ None
   pub no_hand : hand_due g log ≡ None
 
--- and no data module is down; what the classes still have to do is no part of it (`IsIdle`, `IsFinished`)
+-- and no module is down; what the classes still have to do is no part of it (`IsIdle`, `IsFinished`)
 pub record IsQuiet (g : Input) (log : Log) : Type 0 where
   pub permitted : IsPermitted g log
   pub links : quiet (all_links g) (calls_of log) ≡ true
-  pub up : (d : ℕ) → IsModule g.catalogue d → is_down d log ≡ false
+  pub up : (at : Site) → IsModuleOf g at → is_down at log ≡ false
   pub no_act : site_due g log ≡ None
   pub no_hand : hand_due g log ≡ None
 

@@ -1,5 +1,5 @@
 ghost use Rattle.std.specs.Prelude.{◌≡◌, ◌≤◌, ◌↔◌, ◌++◌, ◌∷◌, ℕ, List, None, [], false, true};
-ghost use Rattle.sdd_obligations.specs.invariants.All.{Catalogue, Change, ClassNo, Cond, D, DmNo, Does, Hand, Input, IsPermitted, IsTable, Log, Msg, Read, Rec, Records, Site, Ts, TxnNo, Use, Write, active, home, is_wait, local_of, on_hold, queue, setting_of};
+ghost use Rattle.sdd_obligations.specs.invariants.All.{Catalogue, Change, ClassNo, Cond, D, DmNo, Does, Hand, Input, IsPermitted, IsTable, Log, Msg, Read, Rec, Records, Site, Ts, TxnNo, Use, Write, active, home, is_wait, local_of, on_hold, queue, setting_of, takes_part};
 ghost use Rattle.sdd_obligations.specs.graph.Edges.{IsClassOf};
 ghost use Rattle.sdd_obligations.specs.protocol.declared.entry.Entry as line;
 ghost use Rattle.sdd_obligations.specs.history.declared.record.Rec.TheVariants.{Reject as Rejected};
@@ -43,11 +43,11 @@ pub fn law_free_processed()
         → IsAppliedIn d class txn ts later }
 {}
 
-/// Where an event is over, a class whose site isn't on hold has nothing in its queue while it is
-/// idle: the head of its queue starts at once.
+/// Where an event is over, a class whose site takes part and isn't on hold has nothing in its queue
+/// while it is idle: the head of its queue starts at once. At a site that is down it waits.
 pub fn law_idle_starts()
     ensures { (given : Input) (class : ℕ) (log : Log) → EndsAnEvent given log
-        → IsClassOf given.catalogue class
+        → IsClassOf given.catalogue class → takes_part (home given.catalogue class) log ≡ true
         → on_hold (view_of (setting_of given (home given.catalogue class))
         (local_of given (home given.catalogue class) log)) ≡ false
         → active (setting_of given (home given.catalogue class)) class

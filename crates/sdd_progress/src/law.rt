@@ -1,6 +1,6 @@
 ghost use Rattle.std.specs.List.{list_any};
 ghost use Rattle.std.specs.Prelude.{◌≡◌, ◌++◌, ◌∷◌, ℕ, false, true, Bool, List, [], Some, length, slice_get};
-ghost use Rattle.sdd_obligations.specs.All.{AreAllApplied, AreSubmittedOnce, Change, Commit, D, Event, History, Input, IsLawful, IsModule, IsSerial, Log, Rec, RelNo, Reply, Rests, Row, Settle, TxnNo, all_links, calls_of, contents, copy_at, dated, dm_no, has_copy, history, is_down, items_of, local_of, quiet, redeclares, rows_in_fragment, run, setting_of, txn_no};
+ghost use Rattle.sdd_obligations.specs.All.{AreAllApplied, AreSubmittedOnce, Change, Commit, D, Event, History, Input, IsLawful, IsModuleOf, IsSerial, Log, Rec, RelNo, Reply, Rests, Row, Settle, Site, TxnNo, all_links, calls_of, contents, copy_at, dated, dm_no, has_copy, history, is_down, items_of, local_of, quiet, redeclares, rows_in_fragment, run, setting_of, txn_no};
 ghost use Rattle.sdd_lawful.specs.SoundInput.{AreErasOf, AreNumbered, HasSoundData, SubmitGiven};
 ghost use Rattle.sdd_progress.specs.Committed.{AllCommitted, IsNotLeft, WasCommitted};
 ghost use Rattle.sdd_progress.specs.Eras.{eras_of};
@@ -20,7 +20,7 @@ pub fn law_finished()
 {}
 
 /// A law: wherever a lawful log put a further class list in force nothing went on and all was
-/// idle, if no data module was down there.
+/// idle, if no module was down there.
 pub fn law_idle_at_redeclares()
     ensures { (given : Input) (log : Log) → AreSubmittedOnce given.events → IsLawful given log
         → HasSoundLists given log → IsUpAtRedeclares given log → IsIdleAtRedeclares given log }
@@ -72,14 +72,14 @@ pub fn law_copies()
 {}
 
 /// A law: between events, where no note, act or hand is due, a lawful log at which the links are
-/// quiet and no data module is down is one at which nothing goes on.
+/// quiet and no module is down is one at which nothing goes on.
 pub fn law_resting()
     ensures { (given : Input) (log : Log) → AreSubmittedOnce given.events → Rests given log
         → quiet (all_links given) (calls_of log) ≡ true
-        → ((d : ℕ) → IsModule given.catalogue d → is_down d log ≡ false) → IsQuiet given log }
+        → ((at : Site) → IsModuleOf given at → is_down at log ≡ false) → IsQuiet given log }
 {}
 
-/// A law: a complete log at whose end the links are quiet and no data module is down is one at which
+/// A law: a complete log at whose end the links are quiet and no module is down is one at which
 /// nothing goes on. So all is finished, and all that was submitted is committed. Where the last event
 /// is a settle, the links are quiet.
 pub fn law_settled()

@@ -16,22 +16,23 @@
 //!   The graph of waits of a catalogue's protocol table fits its blocks (`law_table_fits`), so no READ
 //!   of it waits for ever (`law_no_ring_waits`). `instances` has worked logs that meet what some of
 //!   these laws ask.
-//! - Where nothing is in flight or unacknowledged, nothing is due at a site and no data module is
+//! - Where nothing is in flight or unacknowledged, nothing is due at a site and no module is
 //!   down, every message is handed over and processed, no attempt is under way, no transaction is
 //!   queued, and every transaction that was submitted is committed (`law_finished`,
 //!   `law_committed`); then each copy is what a serial run leaves (`law_copies`). Such is every log
 //!   between events at which the links are quiet (`law_resting`), and every complete one after a
 //!   settle (`law_settled`).
-//! - Where data modules are down, a transaction of a declared class commits unless a module is down that
+//! - Where modules are down, a transaction of a declared class commits unless a module is down that
 //!   its class needs, itself or through the classes that it waits for, or an undeclared transaction isn't
 //!   done; and its changes are applied but where such a module is down (`law_outage`). An undeclared one
 //!   that isn't committed hangs on a module that is down (`law_hangs_on`).
 //! - A transaction's rejected attempts are at most the Commits of other transactions
 //!   (`law_few_rejected`), so a run has at most the square of their number of attempts
 //!   (`law_few_attempts`).
-//! - From its `down` to its `up` a data module stays as it is (`law_still_while_down`).
+//! - From its `down` to its `up` a data module stays as it is, and a transaction module neither gets a
+//!   message nor does anything (`law_still_while_down`).
 //! - A log may put any number of class lists in force. If each is an era of the catalogue, and no
-//!   data module was down where one was put in force, then its history keeps all laws, has no cycle
+//!   module was down where one was put in force, then its history keeps all laws, has no cycle
 //!   and has a serial order (`law_lawful`), and few attempts are rejected
 //!   (`law_few_attempts_across_lists`).
 #![tactic(auto)]

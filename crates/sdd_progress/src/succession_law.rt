@@ -28,7 +28,7 @@ pub fn law_lawful()
         → IsOrderable given.catalogue (history log) }
 {}
 
-/// A law: where each `redeclare` of the events is given when it may be, no data module is down where
+/// A law: where each `redeclare` of the events is given when it may be, no module is down where
 /// the log puts a class list in force, and the log puts none in force beyond those that are given.
 pub fn law_timely()
     ensures up { (given : Input) (log : Log) → AllFewTicks given.events → IsLawful given log
