@@ -1,7 +1,9 @@
 -- Messages have come to a site: they are handed over, or kept.
-use Rattle.sdd_world.proofs.All.{Arrives, D, Deliver, DmNo, HandedOn, Handing, Happened, Input, IsSiteOf, Keeping, List, Log, Mark, Msg, Represent, Site, Spooled, U, World, [], position_of, ap, delivers_messages, from_one, is_down, link_parts, local_of, setting_of, subst, sym, takes_part, true, ℕ, ◌∙◌, ◌∷◌, ◌≡◌}
+use Rattle.sdd_world.proofs.All.{AllRepresent, Arrives, Deliver, HandedOn, Handing, Happened, Input, IsSiteOf, Keeping, List, Log, Mark, Msg, Site, Spooled, U, World, [], position_of, ap, delivers_messages, false, from_one, link_parts, refl, subst, sym, takes_part, true, ℕ, ◌∙◌, ◌∷◌, ◌≡◌}
 use Rattle.sdd_world.proofs.Keeping.{keeping_begins, kept_happened}
 use Rattle.sdd_world.proofs.Delivering.{beside, but_for, handed_calm}
+use Rattle.sdd_world.proofs.Marking.{sites_marked}
+use Rattle.sdd_world.proofs.Placing.{is_module, no_part_down}
 
 module _ (w now : World) (g : Input) (log : Log) (a b : Site) (k : ℕ) (messages : List Msg) (h : Arrives w now g log a b k messages) where
   site_is : IsSiteOf g b
@@ -27,8 +29,8 @@ module _ (w now : World) (g : Input) (log : Log) (a b : Site) (k : ℕ) (message
       txns_are = ap (λ v. v.txns) h.same ∙ h.marked.parts.txns_are;
       given_is = ap (λ v. v.given.items) h.same ∙ h.marked.parts.given_is;
       history_is = ap (λ v. v.history) h.same ∙ h.marked.parts.history_is;
-      sites = λ x here. subst (λ z. Represent z x (setting_of g x) (local_of g x (Mark (Deliver a b k) ∷ log))) (sym (ap (λ v. v.sites) h.same))
-          (h.marked.parts.sites x here);
+      sites = subst (λ z. AllRepresent z g (Mark (Deliver a b k) ∷ log)) (sym (ap (λ v. v.sites) h.same))
+          (sites_marked w g log (Deliver a b k) h.marked tt (λ x. refl));
       net = h.net;
     };
     waits = delivers_messages g a b k log messages h.marked.marked part h.delivered_are;
@@ -39,18 +41,13 @@ module _ (w now : World) (g : Input) (log : Log) (a b : Site) (k : ℕ) (message
   pub is_over : (w2 : World) → takes_part b log ≡ true → HandedOn w2 g b (from_one a []) (position_of g (Mark (Deliver a b k) ∷ log)) now.spool → Happened w2 g log
   is_over w2 part d = handed_calm w now w2 g log a b k h.marked part h.same d
 
-module _ (w now : World) (g : Input) (log : Log) (a b : Site) (d : DmNo) (k : ℕ) (messages : List Msg) (h : Arrives w now g log a b k messages) (at : b ≡ D d)
-    (down : is_down d.0 log ≡ true) where
-  here_d : Arrives w now g log a (D d) k messages
-  here_d = subst (λ z. Arrives w now g log a z k messages) at h
-
   -- to a module that is down
-  pub is_keeping : Keeping g (Mark (Deliver a (D d) k) ∷ log) now.spool a d.0 messages
-  is_keeping =
-      subst (λ z. Keeping g (Mark (Deliver a (D d) k) ∷ log) z a d.0 messages) (sym (ap (λ v. v.spool) h.same))
-      (keeping_begins w g log a d.0 k messages here_d.marked down here_d.delivered_are)
+  pub is_keeping : takes_part b log ≡ false → Keeping g (Mark (Deliver a b k) ∷ log) now.spool a b messages
+  is_keeping part =
+      subst (λ z. Keeping g (Mark (Deliver a b k) ∷ log) z a b messages) (sym spool_is)
+      (keeping_begins w g log a b k messages h.marked (is_module g b log site_is part) (no_part_down b log part) h.delivered_are)
 
-  pub is_kept : (w2 : World) → w2 ≡ record now { spool = w2.spool } → Keeping g (Mark (Deliver a (D d) k) ∷ log) w2.spool a d.0 [] → Happened w2 g log
-  is_kept w2 same kept =
-      kept_happened w w2 now.net g log a d.0 k messages here_d.marked down here_d.delivered_are here_d.net
-      (same ∙ ap (λ (v : World). record v { spool = w2.spool }) h.same) kept
+  pub is_kept : (w2 : World) → takes_part b log ≡ false → w2 ≡ record now { spool = w2.spool } → Keeping g (Mark (Deliver a b k) ∷ log) w2.spool a b []
+      → Happened w2 g log
+  is_kept w2 part same kept =
+      kept_happened w w2 now.net g log a b k messages h.marked part h.delivered_are h.net (same ∙ ap (λ (v : World). record v { spool = w2.spool }) h.same) kept

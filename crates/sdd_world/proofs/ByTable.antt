@@ -18,7 +18,7 @@ due_by f h e l [] d = sym (e l) ∙ d
 due_by f h e l (a ∷ acts) d = (sym (e l) ∙ d.0, due_by f h e (Did a ∷ l) acts d.1)
 
 -- a call does the same by a table that agrees, and leaves what follows from what it leaves
-does_by : (f h : site.Log → Option Act) → ((l : site.Log) → f l ≡ h l) → (l : site.Log) (recs : List Rec) (out : List (Site × Msg))
+pub does_by : (f h : site.Log → Option Act) → ((l : site.Log) → f l ≡ h l) → (l : site.Log) (recs : List Rec) (out : List (Site × Msg))
     (P Q : site.Log → Type 0) → ((k : site.Log) → P k → Q k) → Does f l recs out P → Does h l recs out Q
 does_by f h e l recs out P Q g d = record {
   acts = d.acts;
@@ -28,7 +28,7 @@ does_by f h e l recs out P Q g d = record {
   after = g (log_after d.acts l) d.after;
 }
 
-if_ok : (res : Result Outcome NoMemory) (P Q : Outcome → Type 0) → ((o : Outcome) → P o → Q o) → IfOk res P → IfOk res Q
+pub if_ok : (res : Result Outcome NoMemory) (P Q : Outcome → Type 0) → ((o : Outcome) → P o → Q o) → IfOk res P → IfOk res Q
 if_ok (Ok o) P Q h k = h o k
 if_ok (Err e) P Q h k = tt
 
@@ -81,7 +81,7 @@ module _ {V : Type 0} (is_live : V → Bool) (represents : Representation V) (ne
   lives_submit fits n txn (Err e) law live = tt
 
 -- an element of a list is read, and written anew
-there_at : {V : Type 0} (represents : Representation V) (xs : List V) (k : ℕ) (x : V) (setting : Setting) (log : site.Log) → x ≡ slice_index_or xs k x
+pub there_at : {V : Type 0} (represents : Representation V) (xs : List V) (k : ℕ) (x : V) (setting : Setting) (log : site.Log) → x ≡ slice_index_or xs k x
     → At represents (slice_get xs k) setting log → slice_get xs k ≡ Some x
 there_at represents [] k x setting log e h = absurd h
 there_at represents (y ∷ xs) zero x setting log e h = ap Some (sym e)

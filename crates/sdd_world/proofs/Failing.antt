@@ -10,3 +10,7 @@ handed_on (Err y) e h k = let same : y ≡ Limit = cc in ap (λ x. Err x) (sym h
 pub no_limit : {T : Type 0} (P : Type 0) (r : Result T WorldEnd) → IsErrAnd r (λ y. y ≡ NoMemory) → IsErrOf r Limit → P
 no_limit P (Ok v) h k = absurd h
 no_limit P (Err y) h k = let same : y ≡ Limit = cc in let e : NoMemory ≡ Limit = sym h ∙ same in cc
+
+-- a call that went well ended at no limit
+pub no_end : {T : Type 0} (P : Type 0) (v : T) → IsErrOf {T = T} {E = WorldEnd} (Ok v) Limit → P
+no_end P v e = absurd cc

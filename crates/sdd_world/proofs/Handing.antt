@@ -1,6 +1,6 @@
 -- A message is handed over, and its module does what is due, over plain worlds.
-use Rattle.sdd_world.proofs.All.{Act, All, AllLinked, AreDue, AreLinked, Bases, Carries, D, EndsBy, Followed, Hand, HandedOn, Handing, Input, IsFirst, IsLawful, IsPast, IsSiteOf, List, Log, MaySend, Msg, Outcome, Rec, Represent, Setting, Site, Sites, Some, Spooled, TakesAway, U, World, [], after_acts, position_of, good_input, and_right, ap, base_of, calls_acts, calls_of, dm_no, ends_in_acts, false, first_lawful, first_next, fits, handed, hands_first, history_acts, link_parts, linked_acts, local_of, log_after, map, marks, marks_acts, next, next_in, next_of, nth_era, other_acts, other_hand, own_acts, puts, puts_past, records_of, refl, remain_other, same_here, same_is, same_site, sends_of, setting_of, subst, suc, sym, true, ℕ, ◌++◌, ◌∙◌, ◌∷◌, ◌≡◌, ◌≤◌}
-use Rattle.sdd_world.proofs.Parting.{position_acts, events_before, redeclares_acts, spooled_acts, spooled_on}
+use Rattle.sdd_world.proofs.All.{Act, All, AllLinked, AllRepresent, AreDue, AreLinked, Bases, Carries, EndsBy, Followed, Hand, HandedOn, Handing, Input, IsFirst, IsLawful, IsPast, IsSiteOf, List, Log, MaySend, Msg, Outcome, Rec, Represent, Setting, Site, Sites, Some, Spooled, StayAtOthers, TakesAway, U, World, [], after_acts, position_of, good_input, and_right, ap, base_of, calls_acts, calls_of, ends_in_acts, first_lawful, first_next, fits, handed, hands_first, history_acts, link_parts, linked_acts, local_of, log_after, map, marks, marks_acts, next, next_in, next_of, nth_era, other_hand, puts, puts_past, records_of, refl, remain_other, same_here, same_site, sends_of, setting_of, subst, suc, sym, true, ℕ, ◌++◌, ◌∙◌, ◌∷◌, ◌≡◌, ◌≤◌}
+use Rattle.sdd_world.proofs.Parting.{all_after, events_before, position_acts, redeclares_acts, spooled_acts, spooled_on}
 use Rattle.sdd_needs.specs.site_module.SiteLog as site
 
 pub due_same : (g : Input) (b : Site) (bases : Bases) (l : site.Log) (acts : List Act)
@@ -11,13 +11,6 @@ due_same g _ bases l acts h = h
 pub are_linked : (g : Input) (at : Site) (sends : List (Site × Msg)) → AllLinked g at sends → AreLinked g.catalogue.tms g.catalogue.dms at sends
 are_linked g at [] h = tt
 are_linked g at (s ∷ sends) h = (h.0, are_linked g at sends h.1)
-
--- a log that only gets acts stays within as far as it came
-pub here_at : (x b : Site) → x ≡ b → (P : Site → Type 0) → P b → P x
-here_at x b e P h = subst P (sym e) h
-
-pub at_log : (P : site.Log → Type 0) (l k : site.Log) → l ≡ k → P k → P l
-at_log P l k e h = subst P (sym e) h
 
 own_hand : (g : Input) (a b : Site) (n : ℕ) (m : Msg) (log : Log) → local_of g b (Hand a b n m ∷ log) ≡ site.Handed a m ∷ local_of g b log
 own_hand g a b n m log = rw (same_here b) refl
@@ -36,10 +29,10 @@ module _ (w : World) (g : Input) (log : Log) (a b : Site) (m : Msg) (kept : Site
   pub hand_fits : fits b (setting_of g b) (base_of g handed_log) (local_of g b log) a m
   hand_fits = h.parts.good.needs.hand g (good_input g h.parts.good) log a b (suc (handed a b log)) m h.waits.lawful h.waits.within hand_next
 
-  pub hand_represents : Represent w.sites b (setting_of g b) (local_of g b log)
-  hand_represents = h.parts.sites b site_here
+  pub hand_represents : Represent w.sites true b (setting_of g b) (local_of g b log)
+  hand_represents = subst (λ z. Represent w.sites z b (setting_of g b) (local_of g b log)) h.waits.part (h.parts.sites b site_here)
 
-  pub hand_asks : (setting : Setting) × (bases : Bases) × (l : site.Log) × Represent w.sites b setting l × fits b setting bases l a m
+  pub hand_asks : (setting : Setting) × (bases : Bases) × (l : site.Log) × Represent w.sites true b setting l × fits b setting bases l a m
   hand_asks = (setting_of g b, base_of g handed_log, local_of g b log, hand_represents, hand_fits)
 
   pub events_order : All {X = ℕ × Rec} (λ e. e.0 ≤ w.marks) w.history
@@ -51,11 +44,11 @@ module _ (w : World) (g : Input) (log : Log) (a b : Site) (m : Msg) (kept : Site
     pub due : AreDue (next_in g b (base_of g handed_log)) (site.Handed a m ∷ local_of g b log) acts
     pub records_are : outcome.recs ≡ records_of acts
     pub sends_are : outcome.out ≡ sends_of acts
-    pub after : Represent s b (setting_of g b) (log_after acts (site.Handed a m ∷ local_of g b log))
+    pub after : Represent s true b (setting_of g b) (log_after acts (site.Handed a m ∷ local_of g b log))
 
   pub taken : (s : Sites) (outcome : Outcome)
-      → ((setting : Setting) (bases : Bases) (l : site.Log) → Represent w.sites b setting l → fits b setting bases l a m
-      → site.Does (next_of b setting bases) (site.Handed a m ∷ l) outcome.recs outcome.out (Represent s b setting))
+      → ((setting : Setting) (bases : Bases) (l : site.Log) → Represent w.sites true b setting l → fits b setting bases l a m
+      → site.Does (next_of b setting bases) (site.Handed a m ∷ l) outcome.recs outcome.out (Represent s true b setting))
       → Taken s outcome
   taken s outcome law =
       let d = law (setting_of g b) (base_of g handed_log) (local_of g b log) hand_represents hand_fits in
@@ -91,23 +84,15 @@ module _ (w : World) (g : Input) (log : Log) (a b : Site) (m : Msg) (kept : Site
       (ap (λ o. puts_past (calls_of log) b o) (sym t.sends_are) ∙ past g.catalogue.tms g.catalogue.dms (calls_of log) h.parts.net (linked_out s outcome t))
       (refl, h.waits.within) lawful
 
-  done_sites : (s : Sites) (outcome : Outcome) → (t : Taken s outcome)
-      → ((x : Site) (setting : Setting) (l : site.Log) → same_site x b ≡ false → Represent w.sites x setting l → Represent s x setting l)
-      → (x : Site) → IsSiteOf g x → Represent s x (setting_of g x) (local_of g x (after_acts b t.acts handed_log))
-  done_sites s outcome t others x here =
-      elim (same_site x b) as (λ c. same_site x b ≡ c → Represent s x (setting_of g x) (local_of g x (after_acts b t.acts handed_log))) [
-        | true ↦ λ p. here_at x b (same_is x b p) (λ z. Represent s z (setting_of g z) (local_of g z (after_acts b t.acts handed_log)))
-            (at_log (Represent s b (setting_of g b)) (local_of g b (after_acts b t.acts handed_log)) (log_after t.acts (site.Handed a m ∷ local_of g b log))
-            (own_acts g b t.acts handed_log ∙ ap (λ l. log_after t.acts l) (own_hand g a b (suc (handed a b log)) m log)) t.after)
-        | false ↦ λ p. at_log (Represent s x (setting_of g x)) (local_of g x (after_acts b t.acts handed_log)) (local_of g x log)
-            (other_acts g x b t.acts handed_log p ∙ other_hand g x a b (suc (handed a b log)) m log p)
-            (others x (setting_of g x) (local_of g x log) p (h.parts.sites x here))
-      ] refl
+  done_sites : (s : Sites) (outcome : Outcome) → (t : Taken s outcome) → StayAtOthers w.sites s b → AllRepresent s g (after_acts b t.acts handed_log)
+  done_sites s outcome t others =
+      all_after w.sites s g log handed_log b t.acts (site.Handed a m ∷ local_of g b log) (λ x p. refl)
+      (λ x p. other_hand g x a b (suc (handed a b log)) m log p) (own_hand g a b (suc (handed a b log)) m log)
+      (subst (λ z. Represent s z b (setting_of g b) (log_after t.acts (site.Handed a m ∷ local_of g b log))) (sym h.waits.part) t.after) others h.parts.sites
 
   -- it is recorded and sent
   pub hand_done : (s : Sites) (outcome : Outcome) (w2 : World) (less : Site → List Msg) → Taken s outcome → TakesAway kept less a rest
-      → ((x : Site) (setting : Setting) (l : site.Log) → same_site x b ≡ false → Represent w.sites x setting l → Represent s x setting l)
-      → Followed (record w { sites = s }) w2 b outcome → HandedOn w2 g b less (position_of g log) w.spool
+      → StayAtOthers w.sites s b → Followed (record w { sites = s }) w2 b outcome → HandedOn w2 g b less (position_of g log) w.spool
   hand_done s outcome w2 less t k others d =
       let sent_all = d.net g.catalogue.tms g.catalogue.dms (calls_of log) h.parts.net (linked_out s outcome t) in
       let calls : calls_of (after_acts b t.acts handed_log) ≡ puts b outcome.out (calls_of log) =
@@ -125,16 +110,14 @@ module _ (w : World) (g : Input) (log : Log) (a b : Site) (m : Msg) (kept : Site
             history_is = d.history ∙ ap (λ r. w.history ++ map (λ x. (w.marks, x)) r) t.records_are
                 ∙ ap (λ k. w.history ++ map (λ x. (k, x)) (records_of t.acts)) h.marks_are
                 ∙ ap (λ xs. xs ++ map (λ x. (marks log, x)) (records_of t.acts)) h.parts.history_is ∙ sym (history_acts b t.acts handed_log);
-            sites = λ x here. subst (λ z. Represent z x (setting_of g x) (local_of g x (after_acts b t.acts handed_log))) (sym d.sites)
-                (done_sites s outcome t others x here);
+            sites = subst (λ z. AllRepresent z g (after_acts b t.acts handed_log)) (sym d.sites) (done_sites s outcome t others);
             net = subst (λ c. Carries w2.net g.catalogue.tms g.catalogue.dms c) (sym calls) sent_all.1;
           };
           waits = hands_first g log b kept h.waits a m rest f t.acts less k t.due (ap (λ o. puts_past (calls_of log) b o) (sym t.sends_are) ∙ sent_all.0);
           marks_are = d.marks ∙ h.marks_are ∙ sym (marks_acts b t.acts handed_log);
           spooled = subst (λ boxes. Spooled g (after_acts b t.acts handed_log) boxes b) (sym d.spool)
               (spooled_acts g b t.acts handed_log w.spool b (spooled_on g log handed_log w.spool b (λ e. refl)
-              (λ e apart x r k. remain_other log a b x (D (dm_no e)) (suc (handed a b log)) m r
-              (and_right (same_site x a) (same_site (D (dm_no e)) b) apart) k) h.spooled));
+              (λ e apart x r k. remain_other log a b x e (suc (handed a b log)) m r (and_right (same_site x a) (same_site e b) apart) k) h.spooled));
         };
         position_is = position_acts g b t.acts handed_log;
         spool_is = d.spool;

@@ -1,49 +1,32 @@
--- Messages are kept for a module that is down, and handed over when it comes up.
-use Rattle.sdd_world.proofs.All.{Carries, D, Deliver, DmNo, Happened, Input, IsBelow, IsLinkOf, IsSender, IsSiteOf, Keeping, KeepsFor, List, Log, Mailbox, Mark, Marked, Messages, Msg, NetValue, OnlyAt, Remain, Site, Spooled, T, U, World, [], and_left, and_right, ap, append-nil, append_assoc, arith, calls_of, delivers_kept, delivery, dm_no, eq-eqb, eqb-true, false, from_one, if◌then◌else◌, is_down, kept_from, leb-true, length, link_of, link_parts, mailbox_at, nat_le, no_items, none_of_one as no_more, not, number_of_t, numbered, refl, remain_beside, remain_more, same_is, same_site, subst, suc, sym, takes_part, true, zero, ℕ, ◌++◌, ◌<◌, ◌∙◌, ◌∷◌, ◌≡◌, ◌≢◌, ◌≤◌}
-use Rattle.sdd_world.proofs.Marking.{marked_plain}
+-- Messages are kept for a module that is down.
+use Rattle.sdd_world.proofs.All.{Boxes, Carries, Deliver, Happened, HasSenders, Input, IsLinkOf, IsModuleOf, IsPlaced, IsSender, Keeping, KeepsFor, List, Log, Mark, Marked, Messages, Msg, NetValue, OnlyAt, Remain, Site, Spooled, U, World, [], and_left, and_right, ap, append-nil, append_assoc, calls_of, delivers_kept, delivery, false, from_one, if◌then◌else◌, is_down, is_link, kept_from, length, link_of, link_parts, mailbox_at, no_items, none_of_one as no_more, not, refl, remain_beside, remain_more, same_is, same_site, subst, sym, takes_part, true, ℕ, ◌++◌, ◌∙◌, ◌∷◌, ◌≡◌}
+use Rattle.sdd_world.proofs.Marking.{marked_plain, sites_marked}
 use Rattle.sdd_world.proofs.Parting.{spooled_on}
+use Rattle.sdd_world.proofs.Placing.{is_placed, is_sender, no_u, part_is, site_of}
 use Rattle.sdd_needs.specs.net.Mailboxes.{Puts}
-use Rattle.std.proofs.lemmas.Bool.{and_parts}
 
--- the numbers of data modules
+-- a module has a mailbox
+pub placed : (g : Input) (log : Log) (boxes : Boxes Msg) (at busy : Site) → IsModuleOf g at → Spooled g log boxes busy → IsPlaced boxes at
+placed g log boxes at busy h s = is_placed g boxes at s.has (site_of g at h)
 
-pub dm_within : (g : Input) (d : DmNo) → IsSiteOf g (D d) → (1 ≤ d.0) × (d.0 ≤ g.catalogue.dms)
-dm_within g d h = let p = and_parts (nat_le 1 d.0) (nat_le d.0 g.catalogue.dms) h in (leb-true 1 d.0 p.0, leb-true d.0 g.catalogue.dms p.1)
+pub down_of : (g : Input) (log : Log) (boxes : Boxes Msg) (at : Site) → IsModuleOf g at → Spooled g log boxes U → (mailbox_at boxes at).down ≡ is_down at log
+down_of g log boxes at h s = (s.each at h (no_u g at h)).down_is
 
-pub first_in : (g : Input) (log : Log) (boxes : List (Mailbox Msg)) (d : DmNo) (busy : Site) → IsSiteOf g (D d) → Spooled g log boxes busy → 1 ≤ d.0
-first_in g log boxes d busy h s = (dm_within g d h).0
-
-pub last_in : (g : Input) (log : Log) (boxes : List (Mailbox Msg)) (d : DmNo) (busy : Site) → IsSiteOf g (D d) → Spooled g log boxes busy → d.0 ≤ length boxes
-last_in g log boxes d busy h s = rw s.count (dm_within g d h).1
-
-pub down_of : (g : Input) (log : Log) (boxes : List (Mailbox Msg)) (d : DmNo) → IsSiteOf g (D d)
-    → Spooled g log boxes U → (mailbox_at boxes d.0).down ≡ is_down d.0 log
-down_of g log boxes d h s = (s.each d.0 h refl).down_is
-
-pub part_of : (g : Input) (log : Log) (boxes : List (Mailbox Msg)) (d : DmNo) → IsSiteOf g (D d)
-    → Spooled g log boxes U → (mailbox_at boxes d.0).down ≡ false → takes_part (D d) log ≡ true
-part_of g log boxes d h s e = ap not (sym (down_of g log boxes d h s) ∙ e)
-
-t_below : (n size most : ℕ) → (1 ≤ n) × (n ≤ most) → size ≡ suc most → IsBelow size (number_of_t n)
-t_below zero size most p e = absurd (let q = p.0 in omega (arith, q))
-t_below (suc n) size most p e = let q = p.1 in omega (arith, q, e)
+-- and takes part where it isn't down
+pub part_of : (g : Input) (log : Log) (boxes : Boxes Msg) (at : Site) → IsModuleOf g at → Spooled g log boxes U
+    → not (mailbox_at boxes at).down ≡ takes_part at log
+part_of g log boxes at h s = ap not (down_of g log boxes at h s) ∙ sym (part_is g at log h)
 
 -- senders of a module have a place in its mailbox
-pub sender_of : (g : Input) (from : Site) (d : ℕ) (b : Mailbox Msg) → IsLinkOf g from (D (dm_no d)) → length b.queues ≡ suc g.catalogue.tms → IsSender b from
-sender_of g U d b l e = let z : 0 < length b.queues = omega (arith, e) in z
-sender_of g (T n) d b l e = t_below n.0 (length b.queues) g.catalogue.tms
-    (numbered n.0 g.catalogue.tms (link_parts g.catalogue.tms g.catalogue.dms (T n) (D (dm_no d)) l).from) e
-sender_of g (D n) d b l e = let k : false ≡ true = (link_parts g.catalogue.tms g.catalogue.dms (D n) (D (dm_no d)) l).linked in cc
-
-pub same_dm : (e d : ℕ) → same_site (D (dm_no e)) (D (dm_no d)) ≡ false → e ≢ d
-same_dm e d f = λ p. (let t : same_site (D (dm_no e)) (D (dm_no d)) ≡ true = eq-eqb e d p in let no : true ≡ false = sym t ∙ f in cc)
+pub sender_of : (g : Input) (from at : Site) (boxes : Boxes Msg) → IsLinkOf g from at → HasSenders g at (mailbox_at boxes at)
+    → IsSender (mailbox_at boxes at) from
+sender_of g from at boxes l h = is_sender g at (mailbox_at boxes at) from h (link_parts g.catalogue.tms g.catalogue.dms from at l).from
 
 -- the other mailboxes stay
-others_stay : (g : Input) (log : Log) (old new : List (Mailbox Msg)) (d : ℕ) → length new ≡ length old
-    → OnlyAt old new d → Spooled g log old (D (dm_no d)) → Spooled g log new (D (dm_no d))
-others_stay g log old new d count only s = record {
-  count = count ∙ s.count;
-  each = λ e here apart. subst (λ b. KeepsFor g log e b) (sym (only e (dm_within g (dm_no e) here).0 (same_dm e d apart))) (s.each e here apart);
+pub others_stay : (g : Input) (log : Log) (old new : Boxes Msg) (at : Site) → OnlyAt old new at → Spooled g log old at → Spooled g log new at
+others_stay g log old new at only s = record {
+  has = record { tms = only.tms ∙ s.has.tms; count = only.count ∙ s.has.count };
+  each = λ x here apart. subst (λ b. KeepsFor g log x b) (sym (only.others x apart)) (s.each x here apart);
 }
 
 moved : (from x : Site) (m : Msg) (rest old new : List Msg) → (same_site x from ≡ true → new ≡ old ++ m ∷ []) → (same_site x from ≡ false → new ≡ old)
@@ -54,34 +37,44 @@ moved from x m rest old new f h =
       | false ↦ λ s. ap (λ z. z ++ []) (sym (h s))
     ] refl
 
+-- a site that isn't linked isn't the sender
+apart_from : (g : Input) (from at x : Site) → IsLinkOf g from at → is_link g.catalogue.tms g.catalogue.dms x at ≡ false → same_site x from ≡ false
+apart_from g from at x l e = elim (same_site x from) as (λ c. same_site x from ≡ c → c ≡ false) [
+  | true ↦ λ p. (let yes : is_link g.catalogue.tms g.catalogue.dms x at ≡ true = subst (λ z. IsLinkOf g z at) (sym (same_is x from p)) l in
+      let no : true ≡ false = sym yes ∙ e in cc)
+  | false ↦ λ p. refl
+] refl
+
 -- a message is put
-pub put_one : (g : Input) (log : Log) (old new : List (Mailbox Msg)) (from : Site) (d : ℕ)
-    (q rest : List Msg) (m : Msg) → q ≡ m ∷ rest → Keeping g log old from d q
-    → Puts (mailbox_at old d) (mailbox_at new d) from m → length new ≡ length old → OnlyAt old new d → Keeping g log new from d rest
-put_one g log old new from d q rest m e k p count only = record {
+pub put_one : (g : Input) (log : Log) (old new : Boxes Msg) (from at : Site)
+    (q rest : List Msg) (m : Msg) → q ≡ m ∷ rest → Keeping g log old from at q
+    → Puts (mailbox_at old at) (mailbox_at new at) from m → OnlyAt old new at → Keeping g log new from at rest
+put_one g log old new from at q rest m e k p only = record {
   here = k.here;
   linked = k.linked;
   is_down = k.is_down;
   box_down = p.down ∙ k.box_down;
-  senders = p.count ∙ k.senders;
+  senders = record {
+    tms = p.tms ∙ k.senders.tms;
+    count = p.count ∙ k.senders.count;
+    linked = λ x n. p.others x (apart_from g from at x k.linked n) ∙ k.senders.linked x n;
+  };
   kept = λ x.
-      let before : Remain log x (D (dm_no d)) (kept_from (mailbox_at old d) x ++ from_one from
-      (m ∷ rest) x) = subst (λ z. Remain log x (D (dm_no d)) (kept_from (mailbox_at old d) x ++ from_one from z x)) e (k.kept x) in
-      subst (λ z. Remain log x (D (dm_no d)) z)
-      (moved from x m rest (kept_from (mailbox_at old d) x) (kept_from (mailbox_at new d) x)
-      (λ s. subst (λ z. kept_from (mailbox_at new d) z ≡ kept_from (mailbox_at old d) z ++ m ∷ [])
+      let before : Remain log x at (kept_from (mailbox_at old at) x ++ from_one from (m ∷ rest) x) =
+      subst (λ z. Remain log x at (kept_from (mailbox_at old at) x ++ from_one from z x)) e (k.kept x) in
+      subst (λ z. Remain log x at z)
+      (moved from x m rest (kept_from (mailbox_at old at) x) (kept_from (mailbox_at new at) x)
+      (λ s. subst (λ z. kept_from (mailbox_at new at) z ≡ kept_from (mailbox_at old at) z ++ m ∷ [])
       (sym (same_is x from s)) p.here) (λ s. p.others x s)) before;
-  others = others_stay g log old new d count only k.others;
+  others = others_stay g log old new at only k.others;
 }
 
 -- messages come for a module that is down
-pub keeping_begins : (w : World) (g : Input) (log : Log) (a : Site) (d : ℕ) (k : ℕ)
-    (messages : List Msg) → Marked w g log (Deliver a (D (dm_no d)) k)
-    → is_down d log ≡ true
-    → delivery k (link_of a (D (dm_no d)) log) ≡ Messages messages → Keeping g (Mark (Deliver a (D (dm_no d)) k) ∷ log) w.spool a d messages
-keeping_begins w g log a d k messages m down is =
-    let here : IsSiteOf g (D (dm_no d)) = (link_parts g.catalogue.tms g.catalogue.dms a (D (dm_no d)) m.possible.0).to in
-    let box : KeepsFor g log d (mailbox_at w.spool d) = m.spooled.each d here refl in
+pub keeping_begins : (w : World) (g : Input) (log : Log) (a at : Site) (k : ℕ) (messages : List Msg) → Marked w g log (Deliver a at k)
+    → IsModuleOf g at → is_down at log ≡ true → delivery k (link_of a at log) ≡ Messages messages
+    → Keeping g (Mark (Deliver a at k) ∷ log) w.spool a at messages
+keeping_begins w g log a at k messages m here down is =
+    let box : KeepsFor g log at (mailbox_at w.spool at) = m.spooled.each at here (no_u g at here) in
     record {
       here = here;
       linked = m.possible.0;
@@ -90,56 +83,56 @@ keeping_begins w g log a d k messages m down is =
       senders = box.senders;
       kept = λ x.
           elim (same_site x a) as (λ c. same_site x a ≡ c
-          → Remain (Mark (Deliver a (D (dm_no d)) k) ∷ log) x (D (dm_no d))
-          (kept_from (mailbox_at w.spool d) x ++ (if c then messages else []))) [
-            | true ↦ λ s. subst (λ z. Remain (Mark (Deliver a (D (dm_no d)) k) ∷ log) z (D (dm_no d))
-                (kept_from (mailbox_at w.spool d) z ++ messages)) (sym (same_is x a s))
-                (remain_more a (D (dm_no d)) k log (kept_from (mailbox_at w.spool d) a) messages is (box.kept down a))
-            | false ↦ λ s. subst (λ z. Remain (Mark (Deliver a (D (dm_no d)) k) ∷ log) x (D (dm_no d)) z)
-                (sym (append-nil (kept_from (mailbox_at w.spool d) x)))
-                (remain_beside a (D (dm_no d)) k log x (D (dm_no d)) (kept_from (mailbox_at w.spool d) x)
-                (and_left (same_site x a) (same_site (D (dm_no d)) (D (dm_no d))) s) (box.kept down x))
+          → Remain (Mark (Deliver a at k) ∷ log) x at (kept_from (mailbox_at w.spool at) x ++ (if c then messages else []))) [
+            | true ↦ λ s. subst (λ z. Remain (Mark (Deliver a at k) ∷ log) z at
+                (kept_from (mailbox_at w.spool at) z ++ messages)) (sym (same_is x a s))
+                (remain_more a at k log (kept_from (mailbox_at w.spool at) a) messages is (box.kept down a))
+            | false ↦ λ s. subst (λ z. Remain (Mark (Deliver a at k) ∷ log) x at z)
+                (sym (append-nil (kept_from (mailbox_at w.spool at) x)))
+                (remain_beside a at k log x at (kept_from (mailbox_at w.spool at) x) (and_left (same_site x a) (same_site at at) s) (box.kept down x))
           ] refl;
-      others = spooled_on g log (Mark (Deliver a (D (dm_no d)) k) ∷ log) w.spool (D (dm_no d)) (λ e. refl)
-          (λ e apart x rest r. remain_beside a (D (dm_no d)) k log x (D (dm_no e)) rest
-          (and_right (same_site x a) (same_site (D (dm_no e)) (D (dm_no d))) apart) r)
-          (record { count = m.spooled.count; each = λ e h apart. m.spooled.each e h refl });
+      others = spooled_on g log (Mark (Deliver a at k) ∷ log) w.spool at (λ e. refl)
+          (λ e apart x rest r. remain_beside a at k log x e rest (and_right (same_site x a) (same_site e at) apart) r)
+          (record { has = m.spooled.has; each = λ e h apart. m.spooled.each e h (no_u g e h) });
     }
 
 -- all are put, and all mailboxes stand
-kept_box : (g : Input) (log : Log) (boxes : List (Mailbox Msg)) (a : Site) (d : ℕ) → Keeping g log boxes a d [] → KeepsFor g log d (mailbox_at boxes d)
-kept_box g log boxes a d k = record {
+kept_box : (g : Input) (log : Log) (boxes : Boxes Msg) (a at : Site) → Keeping g log boxes a at [] → KeepsFor g log at (mailbox_at boxes at)
+kept_box g log boxes a at k = record {
   down_is = k.box_down ∙ sym k.is_down;
   senders = k.senders;
-  kept = λ p x. subst (λ z. Remain log x (D (dm_no d)) z) (ap (λ z. kept_from (mailbox_at boxes d) x ++ z)
-      (no_more a x) ∙ append-nil (kept_from (mailbox_at boxes d) x)) (k.kept x);
+  kept = λ p x. subst (λ z. Remain log x at z) (ap (λ z. kept_from (mailbox_at boxes at) x ++ z)
+      (no_more a x) ∙ append-nil (kept_from (mailbox_at boxes at) x)) (k.kept x);
   empty = λ p x. (let no : true ≡ false = sym k.is_down ∙ p in cc);
 }
 
-pub all_kept : (g : Input) (log : Log) (boxes : List (Mailbox Msg)) (a : Site) (d : ℕ) → Keeping g log boxes a d [] → Spooled g log boxes U
-all_kept g log boxes a d k = record {
-  count = k.others.count;
-  each = λ e here apart.
-      elim (same_site (D (dm_no e)) (D (dm_no d))) as (λ c. same_site (D (dm_no e)) (D (dm_no d)) ≡ c → KeepsFor g log e (mailbox_at boxes e)) [
-        | true ↦ λ s. let same : e ≡ d = eqb-true e d s in subst (λ z. KeepsFor g log z (mailbox_at boxes z)) (sym same) (kept_box g log boxes a d k)
-        | false ↦ λ s. k.others.each e here s
+-- with the mailbox of the busy module all mailboxes stand
+pub by_site : (g : Input) (log : Log) (boxes : Boxes Msg) (at : Site) → KeepsFor g log at (mailbox_at boxes at) → Spooled g log boxes at → Spooled g log boxes U
+by_site g log boxes at k s = record {
+  has = s.has;
+  each = λ x here apart.
+      elim (same_site x at) as (λ c. same_site x at ≡ c → KeepsFor g log x (mailbox_at boxes x)) [
+        | true ↦ λ p. subst (λ z. KeepsFor g log z (mailbox_at boxes z)) (sym (same_is x at p)) k
+        | false ↦ λ p. s.each x here p
       ] refl;
 }
 
-pub kept_happened : (w w2 : World) (net : NetValue) (g : Input) (log : Log) (a : Site) (d : ℕ) (k : ℕ)
-    (messages : List Msg) → Marked w g log (Deliver a (D (dm_no d)) k)
-    → is_down d log ≡ true → delivery k (link_of a (D (dm_no d)) log) ≡ Messages messages
-    → Carries net g.catalogue.tms g.catalogue.dms (calls_of (Mark (Deliver a (D (dm_no d)) k) ∷ log))
-    → w2 ≡ record w { net = net; spool = w2.spool } → Keeping g (Mark (Deliver a (D (dm_no d)) k) ∷ log) w2.spool a d [] → Happened w2 g log
-kept_happened w w2 net g log a d k messages m down is n same kept =
-    marked_plain w w2 g log (Deliver a (D (dm_no d)) k) m tt (delivers_kept g a (D (dm_no d)) k log messages m.marked (ap not down) is)
+pub all_kept : (g : Input) (log : Log) (boxes : Boxes Msg) (a at : Site) → Keeping g log boxes a at [] → Spooled g log boxes U
+all_kept g log boxes a at k = by_site g log boxes at (kept_box g log boxes a at k) k.others
+
+pub kept_happened : (w w2 : World) (net : NetValue) (g : Input) (log : Log) (a at : Site) (k : ℕ) (messages : List Msg) → Marked w g log (Deliver a at k)
+    → takes_part at log ≡ false → delivery k (link_of a at log) ≡ Messages messages
+    → Carries net g.catalogue.tms g.catalogue.dms (calls_of (Mark (Deliver a at k) ∷ log))
+    → w2 ≡ record w { net = net; spool = w2.spool } → Keeping g (Mark (Deliver a at k) ∷ log) w2.spool a at [] → Happened w2 g log
+kept_happened w w2 net g log a at k messages m down is n same kept =
+    marked_plain w w2 g log (Deliver a at k) m (sites_marked w g log (Deliver a at k) m tt (λ x. refl)) (delivers_kept g a at k log messages m.marked down is)
     (same ∙ ap (λ z. record w { net = z; spool = w2.spool }) (sym (ap (λ v. v.net) same)))
-    (subst (λ z. Carries z g.catalogue.tms g.catalogue.dms (calls_of (Mark (Deliver a (D (dm_no d)) k) ∷ log))) (sym (ap (λ v. v.net) same)) n)
-    (all_kept g (Mark (Deliver a (D (dm_no d)) k) ∷ log) w2.spool a d kept)
+    (subst (λ z. Carries z g.catalogue.tms g.catalogue.dms (calls_of (Mark (Deliver a at k) ∷ log))) (sym (ap (λ v. v.net) same)) n)
+    (all_kept g (Mark (Deliver a at k) ∷ log) w2.spool a at kept)
 
-pub all_put : (g : Input) (log : Log) (boxes : List (Mailbox Msg)) (a : Site) (d : ℕ) (queue : List Msg)
-    → Keeping g log boxes a d queue → (n : ℕ) → n ≡ length queue → n ≡ 0 → Keeping g log boxes a d []
-all_put g log boxes a d queue k n e f = subst (λ q. Keeping g log boxes a d q) (no_items queue n e f) k
+pub all_put : (g : Input) (log : Log) (boxes : Boxes Msg) (a at : Site) (queue : List Msg)
+    → Keeping g log boxes a at queue → (n : ℕ) → n ≡ length queue → n ≡ 0 → Keeping g log boxes a at []
+all_put g log boxes a at queue k n e f = subst (λ q. Keeping g log boxes a at q) (no_items queue n e f) k
 
-pub same_again : (w now : World) (boxes : List (Mailbox Msg)) → now ≡ record w { spool = now.spool } → record now { spool = boxes } ≡ record w { spool = boxes }
+pub same_again : (w now : World) (boxes : Boxes Msg) → now ≡ record w { spool = now.spool } → record now { spool = boxes } ≡ record w { spool = boxes }
 same_again w now boxes e = ap (λ (v : World). record v { spool = boxes }) e

@@ -18,12 +18,17 @@ pub mod NextList
 pub mod Numbered
 pub mod ReadMessages
 pub mod Parting
+pub mod Placing
 pub mod Quietness
 pub mod Rounds
 pub mod Sends
 pub mod Submitting
 pub mod Ticking
+pub mod Senders
+pub mod Rising
+pub mod Resuming
 pub mod Turning
+pub mod TxnModules
 pub mod HomesExist
 pub mod Lists
 pub mod Outsiders

@@ -1,7 +1,6 @@
 -- Events of which nothing more is due, or that find nothing to do, over plain worlds.
-use Rattle.sdd_world.proofs.All.{All, Bool, Call, Carries, D, Down, Event, Happened, Input, IsNoTick, IsSiteOf, List, Log, Lose, Loses, Mailbox, Mark, Marked, Msg, NetValue, None, Noted, Notes, Option, Packet, Remain, Repeat, Repeats, Represent, Resend, Resends, Rests, Site, Some, Spooled, TurnsNone, U, Up, World, [], after_mark, ap, arith, calls_of, delivered, delivered_lose, delivered_repeat, delivered_resend, dm_no, due_by, false, handed, handed_still, history, is_down, is_none, is_some, left, length, link, link_of, local_of, mark_local, marks, nat_lt, none_by_mark, note_if, nth_era, packet_at, redeclares, refl, rests_marked, rests_noted, sent_stays, setting_of, slice_get, subst, suc, sym, true, unacked_none, unacked_some, ℕ, ◌++◌, ◌+◌, ◌∙◌, ◌∷◌, ◌≡◌, ◌≤◌}
-use Rattle.sdd_world.proofs.Parting.{events_before, later, same_position, spooled_on}
-use Rattle.sdd_world.proofs.Handing.{at_log}
+use Rattle.sdd_world.proofs.All.{All, AllRepresent, Bool, Boxes, Call, Carries, Down, Event, Happened, Input, IsNoTick, List, Log, Lose, Loses, Mark, Marked, Msg, NetValue, None, Noted, Notes, Option, Packet, Remain, Repeat, Repeats, Resend, Resends, Rests, Site, Some, Spooled, TurnsNone, U, Up, World, [], after_mark, ap, arith, calls_of, delivered, delivered_lose, delivered_repeat, delivered_resend, due_by, false, handed, handed_still, history, is_down, is_none, is_some, left, length, link, link_of, mark_local, marks, nat_lt, none_by_mark, note_if, nth_era, packet_at, part_marked, redeclares, refl, rests_marked, rests_noted, sent_stays, slice_get, subst, suc, sym, takes_part, true, turns_none, unacked_none, unacked_some, ℕ, ◌++◌, ◌+◌, ◌∙◌, ◌∷◌, ◌≡◌, ◌≤◌}
+use Rattle.sdd_world.proofs.Parting.{all_on, events_before, later, same_position, spooled_on}
 
 note_some : {M : Type 0} (o : Option (Packet M)) → is_some o ≡ true → note_if (is_none o) ≡ None
 note_some None e = cc
@@ -12,10 +11,10 @@ note_none None e = refl
 note_none (Some p) e = cc
 
 -- an event that turns no module leaves the downs
-pub same_downs : (d : ℕ) (e : Event) (log : Log) → TurnsNone e → is_down d (Mark e ∷ log) ≡ is_down d log
-same_downs d (Down k) log h = absurd h
-same_downs d (Up k) log h = absurd h
-same_downs d _ log h = refl
+pub same_downs : (at : Site) (e : Event) (log : Log) → TurnsNone e → is_down at (Mark e ∷ log) ≡ is_down at log
+same_downs at (Down k) log h = absurd h
+same_downs at (Up k) log h = absurd h
+same_downs at _ log h = refl
 
 -- what remains on a link stays, where an event delivers nothing on it and puts nothing away
 abbrev pub KeepsLinks : Event → Log → Type 0
@@ -54,7 +53,7 @@ pub record Results (w2 : World) (g : Input) (log more : Log) : Type 0 where
   pub left_is : left g.events more ≡ after_mark (left g.events log)
   pub redeclares_is : redeclares more ≡ redeclares log
   pub history_is : w2.history ≡ history more
-  pub sites : (x : Site) → IsSiteOf g x → Represent w2.sites x (setting_of g x) (local_of g x more)
+  pub sites : AllRepresent w2.sites g more
   pub net : Carries w2.net g.catalogue.tms g.catalogue.dms (calls_of more)
   pub spooled : Spooled g more w2.spool U
 
@@ -80,17 +79,17 @@ happened w w2 g log e more m s r = record {
   position_is = same_position (left g.events more) (after_mark (left g.events log)) (marks more) (suc (marks log)) r.left_is r.marks_is;
 }
 
-sites_marked : (w : World) (g : Input) (log : Log) (e : Event) → Marked w g log e → IsNoTick e → (x : Site) → IsSiteOf g x
-    → Represent w.sites x (setting_of g x) (local_of g x (Mark e ∷ log))
-sites_marked w g log e m i x here =
-    at_log (Represent w.sites x (setting_of g x)) (local_of g x (Mark e ∷ log)) (local_of g x log) (mark_local g e log x i) (m.parts.sites x here)
+-- the modules stay as they are after an event that lets no clock go on, where each takes part as before
+pub sites_marked : (w : World) (g : Input) (log : Log) (e : Event) → Marked w g log e → IsNoTick e
+    → ((x : Site) → takes_part x (Mark e ∷ log) ≡ takes_part x log) → AllRepresent w.sites g (Mark e ∷ log)
+sites_marked w g log e m i part = all_on w.sites g log (Mark e ∷ log) part (λ x. mark_local g e log x i) m.parts.sites
 
 -- an event of which nothing more is due
-pub marked_plain : (w w2 : World) (g : Input) (log : Log) (e : Event) → Marked w g log e → IsNoTick e → Rests g (Mark e ∷ log)
+pub marked_plain : (w w2 : World) (g : Input) (log : Log) (e : Event) → Marked w g log e → AllRepresent w.sites g (Mark e ∷ log) → Rests g (Mark e ∷ log)
     → w2 ≡ record w { net = w2.net; spool = w2.spool } → Carries w2.net g.catalogue.tms g.catalogue.dms
     (calls_of (Mark e ∷ log)) → Spooled g (Mark e ∷ log) w2.spool U
     → Happened w2 g log
-marked_plain w w2 g log e m i r same n s =
+marked_plain w w2 g log e m all r same n s =
     happened w w2 g log e (Mark e ∷ log) m
     (record { whole = ap (λ v. v.whole.now) same; catalogue = ap (λ v. v.catalogue.now) same; txns = ap (λ v. v.txns) same; given = ap (λ v. v.given) same; marks = ap (λ v. v.marks) same })
     (record {
@@ -99,20 +98,20 @@ marked_plain w w2 g log e m i r same n s =
       left_is = refl;
       redeclares_is = refl;
       history_is = ap (λ v. v.history) same ∙ m.parts.history_is;
-      sites = λ x here. subst (λ z. Represent z x (setting_of g x) (local_of g x (Mark e ∷ log)))
-          (sym (ap (λ v. v.sites) same)) (sites_marked w g log e m i x here);
+      sites = subst (λ z. AllRepresent z g (Mark e ∷ log)) (sym (ap (λ v. v.sites) same)) all;
       net = n;
       spooled = s;
     })
 
-noted_spool : (g : Input) (log : Log) (boxes : List (Mailbox Msg)) → Spooled g log boxes U → Spooled g (Notes ∷ log) boxes U
-noted_spool g log boxes s = spooled_on g log (Notes ∷ log) boxes U (λ d. refl) (λ d apart x rest r. record { count = r.count; messages = r.messages }) s
+noted_spool : (g : Input) (log : Log) (boxes : Boxes Msg) → Spooled g log boxes U → Spooled g (Notes ∷ log) boxes U
+noted_spool g log boxes s = spooled_on g log (Notes ∷ log) boxes U (λ at. refl) (λ at apart x rest r. record { count = r.count; messages = r.messages }) s
 
 -- an event that finds nothing to do, and is noted
-pub marked_noted : (w w2 : World) (g : Input) (log : Log) (e : Event) → Marked w g log e → IsNoTick e → Rests g (Notes ∷ Mark e ∷ log)
+pub marked_noted : (w w2 : World) (g : Input) (log : Log) (e : Event) → Marked w g log e → AllRepresent w.sites g (Mark e ∷ log)
+    → Rests g (Notes ∷ Mark e ∷ log)
     → w2 ≡ record w { net = w2.net; history = w2.history; spool = w2.spool } → w2.history ≡ w.history ++ (w.marks, Noted) ∷ []
     → Carries w2.net g.catalogue.tms g.catalogue.dms (calls_of (Mark e ∷ log)) → Spooled g (Mark e ∷ log) w2.spool U → Happened w2 g log
-marked_noted w w2 g log e m i r same noted n s =
+marked_noted w w2 g log e m all r same noted n s =
     happened w w2 g log e (Notes ∷ Mark e ∷ log) m
     (record { whole = ap (λ v. v.whole.now) same; catalogue = ap (λ v. v.catalogue.now) same; txns = ap (λ v. v.txns) same; given = ap (λ v. v.given) same; marks = ap (λ v. v.marks) same })
     (record {
@@ -121,8 +120,8 @@ marked_noted w w2 g log e m i r same noted n s =
       left_is = refl;
       redeclares_is = refl;
       history_is = noted ∙ ap (λ k. w.history ++ (k, Noted) ∷ []) m.marks_are ∙ ap (λ xs. xs ++ (suc (marks log), Noted) ∷ []) m.parts.history_is;
-      sites = λ x here. subst (λ z. Represent z x (setting_of g x) (local_of g x (Notes ∷ Mark e ∷ log)))
-          (sym (ap (λ v. v.sites) same)) (sites_marked w g log e m i x here);
+      sites = subst (λ z. AllRepresent z g (Notes ∷ Mark e ∷ log)) (sym (ap (λ v. v.sites) same))
+          (all_on w.sites g (Mark e ∷ log) (Notes ∷ Mark e ∷ log) (λ x. refl) (λ x. refl) all);
       net = n;
       spooled = noted_spool g (Mark e ∷ log) w2.spool s;
     })
@@ -132,9 +131,9 @@ order_of w g log e m = rw (m.marks_are, m.parts.history_is) (later (marks log) (
 
 -- losing, repeating and resending
 
-spool_kept : (g : Input) (log : Log) (e : Event) (boxes : List (Mailbox Msg)) → TurnsNone e
+spool_kept : (g : Input) (log : Log) (e : Event) (boxes : Boxes Msg) → TurnsNone e
     → KeepsLinks e log → Spooled g log boxes U → Spooled g (Mark e ∷ log) boxes U
-spool_kept g log e boxes t k s = spooled_on g log (Mark e ∷ log) boxes U (λ d. same_downs d e log t) (λ d apart x rest r. k x (D (dm_no d)) rest r) s
+spool_kept g log e boxes t k s = spooled_on g log (Mark e ∷ log) boxes U (λ at. same_downs at e log t) (λ at apart x rest r. k x at rest r) s
 
 pub record DoesNothing (w w2 : World) (g : Input) (log : Log) (e : Event) : Type 0 where
   pub no_tick : IsNoTick e
@@ -146,8 +145,8 @@ pub record DoesNothing (w w2 : World) (g : Input) (log : Log) (e : Event) : Type
 pub did : (w w2 : World) (g : Input) (log : Log) (e : Event) → Marked w g log e → DoesNothing w w2 g log e → due_by g e log ≡ None
     → w2 ≡ record w { net = w2.net } → Happened w2 g log
 did w w2 g log e m q d same =
-    marked_plain w w2 g log e m q.no_tick
-    (rests_marked g log e m.marked (none_by_mark g log e q.no_tick m.marked.rests.no_site) d
+    marked_plain w w2 g log e m (sites_marked w g log e m q.no_tick (λ x. part_marked x e log q.turns_none))
+    (rests_marked g log e m.marked (none_by_mark g log e q.no_tick (turns_none e log q.turns_none) m.marked.rests.no_site) d
     (handed_still log e q.turns_none q.same m.marked.rests.handed_all))
     (same ∙ ap (λ b. record w { net = w2.net; spool = b }) (sym (ap (λ v. v.spool) same))) q.net
     (subst (λ b. Spooled g (Mark e ∷ log) b U) (sym (ap (λ v. v.spool) same)) (spool_kept g log e w.spool q.turns_none q.links m.spooled))
@@ -155,7 +154,8 @@ did w w2 g log e m q d same =
 pub noted : (w w2 : World) (g : Input) (log : Log) (e : Event) → Marked w g log e → DoesNothing w w2 g log e → due_by g e log ≡ Some Notes
     → w2 ≡ record w { net = w2.net; history = w2.history } → w2.history ≡ w.history ++ (w.marks, Noted) ∷ [] → Happened w2 g log
 noted w w2 g log e m q d same note =
-    marked_noted w w2 g log e m q.no_tick (rests_noted g log e m.marked q.no_tick d (handed_still log e q.turns_none q.same m.marked.rests.handed_all))
+    marked_noted w w2 g log e m (sites_marked w g log e m q.no_tick (λ x. part_marked x e log q.turns_none))
+    (rests_noted g log e m.marked q.no_tick (turns_none e log q.turns_none) d (handed_still log e q.turns_none q.same m.marked.rests.handed_all))
     (same ∙ ap (λ b. record w { net = w2.net; history = w2.history; spool = b }) (sym (ap (λ v. v.spool) same))) note q.net
     (subst (λ b. Spooled g (Mark e ∷ log) b U) (sym (ap (λ v. v.spool) same)) (spool_kept g log e w.spool q.turns_none q.links m.spooled))
 

@@ -1,12 +1,12 @@
 -- A class list is put in force at all transaction modules, one after the other.
-use Rattle.sdd_world.proofs.All.{AllRepresent, AreRedeclared, Era, FitsEra, Input, IsSiteOf, Log, Redeclared, Represent, Setting, Site, Sites, T, TmNo, and_from, and_parts, ap, arith, cases_lt, false, nat_tests, fold, inl, inr, le-leb, leb-true, local_of, map, max, nat_le, number_of, range_with_len, refl, same_is, same_site, setting_of, subst, suc, sym, tm_no, true, ℕ, ◌+◌, ◌-◌, ◌<◌, ◌==◌, ◌∙◌, ◌∷◌, ◌≡◌, ◌≤◌}
+use Rattle.sdd_world.proofs.All.{AllRepresent, AreRedeclared, Bool, Era, FitsEra, Input, IsSiteOf, Log, Redeclared, Represent, Setting, Site, Sites, StayAtOthers, T, TmNo, and_from, and_parts, ap, arith, cases_lt, false, nat_tests, fold, inl, inr, le-leb, leb-true, local_of, map, max, nat_le, number_of, range_with_len, refl, same_is, same_site, setting_of, subst, suc, sym, takes_part, tm_no, true, ℕ, ◌+◌, ◌-◌, ◌<◌, ◌==◌, ◌∙◌, ◌∷◌, ◌≡◌, ◌≤◌}
 use Rattle.sdd_needs.specs.site_module.SiteLog as site
 
 -- the transaction modules before number n represent logs with the list, all other modules for theirs
 pub record RedeclaredAt (m : Sites) (g : Input) (log : Log) (era : Era) (t n : ℕ) : Type 0 where
   pub redeclared_at : (k : ℕ) → 1 ≤ k → k < n → IsSiteOf g (T (tm_no k))
-      → Represent m (T (tm_no k)) (setting_of g (T (tm_no k))) (Redeclared era t ∷ local_of g (T (tm_no k)) log)
-  pub others : (at : Site) → ((k : ℕ) → at ≡ T (tm_no k) → n ≤ k) → IsSiteOf g at → Represent m at (setting_of g at) (local_of g at log)
+      → Represent m (takes_part (T (tm_no k)) log) (T (tm_no k)) (setting_of g (T (tm_no k))) (Redeclared era t ∷ local_of g (T (tm_no k)) log)
+  pub others : (at : Site) → ((k : ℕ) → at ≡ T (tm_no k) → n ≤ k) → IsSiteOf g at → Represent m (takes_part at log) at (setting_of g at) (local_of g at log)
 
 pub none_redeclared : (m : Sites) (g : Input) (log : Log) (era : Era) (t : ℕ) → AllRepresent m g log → RedeclaredAt m g log era t 1
 none_redeclared m g log era t all = record { redeclared_at = λ k low high here. absurd (omega arith); others = λ at later here. all at here }
@@ -26,17 +26,14 @@ t_within g t here =
 
 -- what the module that comes next represents
 pub t_represents : (m : Sites) (g : Input) (log : Log) (era : Era) (t n : ℕ) → RedeclaredAt m g log era t n → IsSiteOf g (T (tm_no n))
-    → Represent m (T (tm_no n)) (setting_of g (T (tm_no n))) (local_of g (T (tm_no n)) log)
+    → Represent m (takes_part (T (tm_no n)) log) (T (tm_no n)) (setting_of g (T (tm_no n))) (local_of g (T (tm_no n)) log)
 t_represents m g log era t n f here = f.others (T (tm_no n)) (λ k e. (let same : n ≡ k = ap number_of e in omega (arith, same))) here
 
 -- what the call at one module does
 
 abbrev pub EraLaw : Sites → Sites → Era → ℕ → ℕ → Type 0
-EraLaw m m2 era t n = (setting : Setting) (l : site.Log) → Represent m (T (tm_no n)) setting l → FitsEra setting.catalogue era t
-    → Represent m2 (T (tm_no n)) setting (Redeclared era t ∷ l)
-
-abbrev pub OthersLaw : Sites → Sites → ℕ → Type 0
-OthersLaw m m2 n = (x : Site) (setting : Setting) (l : site.Log) → same_site x (T (tm_no n)) ≡ false → Represent m x setting l → Represent m2 x setting l
+EraLaw m m2 era t n = (part : Bool) (setting : Setting) (l : site.Log) → Represent m part (T (tm_no n)) setting l → FitsEra setting.catalogue era t
+    → Represent m2 part (T (tm_no n)) setting (Redeclared era t ∷ l)
 
 apart_from : (at : Site) (n : ℕ) → ((k : ℕ) → at ≡ T (tm_no k) → n + 1 ≤ k) → same_site at (T (tm_no n)) ≡ false
 apart_from at n later = elim (same_site at (T (tm_no n))) as (λ b. same_site at (T (tm_no n)) ≡ b → b ≡ false) [
@@ -45,16 +42,18 @@ apart_from at n later = elim (same_site at (T (tm_no n))) as (λ b. same_site at
 ] refl
 
 pub one_redeclared : (m m2 : Sites) (g : Input) (log : Log) (era : Era) (t n : ℕ) → RedeclaredAt m g log era t n → IsSiteOf g (T (tm_no n))
-    → FitsEra g.catalogue era t → EraLaw m m2 era t n → OthersLaw m m2 n → RedeclaredAt m2 g log era t (n + 1)
+    → FitsEra g.catalogue era t → EraLaw m m2 era t n → StayAtOthers m m2 (T (tm_no n)) → RedeclaredAt m2 g log era t (n + 1)
 one_redeclared m m2 g log era t n f here fits law stay = record {
   redeclared_at = λ k low high there. elim (cases_lt k n) [
-    | inl l ↦ stay (T (tm_no k)) (setting_of g (T (tm_no k))) (Redeclared era t ∷ local_of g (T (tm_no k)) log) (differ k n l) (f.redeclared_at k low l there)
+    | inl l ↦ stay (T (tm_no k)) (takes_part (T (tm_no k)) log) (setting_of g (T (tm_no k))) (Redeclared era t ∷ local_of g (T (tm_no k)) log)
+        (differ k n l) (f.redeclared_at k low l there)
     | inr l ↦
         (let same : n ≡ k = omega (arith, l, high) in
-        subst (λ j. Represent m2 (T (tm_no j)) (setting_of g (T (tm_no j))) (Redeclared era t ∷ local_of g (T (tm_no j)) log)) same
-        (law (setting_of g (T (tm_no n))) (local_of g (T (tm_no n)) log) (t_represents m g log era t n f here) fits))
+        subst (λ j. Represent m2 (takes_part (T (tm_no j)) log) (T (tm_no j)) (setting_of g (T (tm_no j)))
+        (Redeclared era t ∷ local_of g (T (tm_no j)) log)) same
+        (law (takes_part (T (tm_no n)) log) (setting_of g (T (tm_no n))) (local_of g (T (tm_no n)) log) (t_represents m g log era t n f here) fits))
   ];
-  others = λ at later there. stay at (setting_of g at) (local_of g at log) (apart_from at n later)
+  others = λ at later there. stay at (takes_part at log) (setting_of g at) (local_of g at log) (apart_from at n later)
       (f.others at (λ k e. (let l = later k e in omega (arith, l))) there);
 }
 

@@ -1,5 +1,5 @@
 -- Another class list is put in force, once the links are quiet, over plain worlds.
-use Rattle.sdd_world.proofs.All.{AllRepresent, AreRedeclared, Carries, Catalogue, EndsBy, EndsIn, Entry, Era, Event, FitsEra, Input, IsNextList, IsSettled, List, Log, MAX_RUN_EVENTS, Redeclare, Redeclares, Redeclaring, Represent, Represents, Sites, Spooled, U, World, [], good_input, ap, arith, calls_of, count_join, greatest_bound, left, local_of, lt-ltb, marks, none_left, nth_era, redeclare_next, redeclares, redeclares_in, redeclares_left, refl, rests_redeclared, setting_of, settles_before, subst, suc, sym, with_era, with_event, zero, ℕ, ◌+◌, ◌∙◌, ◌∷◌, ◌≡◌, ◌≢◌}
+use Rattle.sdd_world.proofs.All.{AllRepresent, AreRedeclared, Carries, Catalogue, EndsBy, EndsIn, Entry, Era, Event, FitsEra, Input, IsNextList, IsSettled, List, Log, MAX_RUN_EVENTS, Redeclare, Redeclares, Redeclaring, Represent, Represents, Sites, Spooled, U, World, [], good_input, ap, arith, calls_of, count_join, greatest_bound, left, local_of, lt-ltb, marks, none_left, nth_era, redeclare_next, redeclares, redeclares_in, redeclares_left, refl, rests_redeclared, setting_of, settles_before, subst, suc, sym, takes_part, with_era, with_event, zero, ℕ, ◌+◌, ◌∙◌, ◌∷◌, ◌≡◌, ◌≢◌}
 use Rattle.sdd_world.proofs.Parting.{spooled_on}
 use Rattle.sdd_world.proofs.Rounds.{few, free}
 
@@ -57,9 +57,9 @@ module _ (w : World) (g : Input) (log : Log) (era : Era) (f : Redeclaring w g lo
   sites_redeclared : (w2 : World) (s : Sites) (t : ℕ) → t ≡ greatest_bound g log → AreRedeclared s g log era t → w2.sites ≡ s
       → AllRepresent w2.sites g (Redeclares (greatest_bound g log) ∷ log)
   sites_redeclared w2 s t e redeclared_at is at here =
-      subst (λ z. Represent z at (setting_of g at) (local_of g at (Redeclares (greatest_bound g log) ∷ log))) (sym is)
-      (subst (λ x. Represent s at (setting_of g at) (with_era at x (greatest_bound g log) (local_of g at log))) (sym f.era_is)
-      (subst (λ x. Represent s at (setting_of g at) (with_era at era x (local_of g at log))) e (redeclared_at at here)))
+      subst (λ z. Represent z (takes_part at log) at (setting_of g at) (local_of g at (Redeclares (greatest_bound g log) ∷ log))) (sym is)
+      (subst (λ x. Represent s (takes_part at log) at (setting_of g at) (with_era at x (greatest_bound g log) (local_of g at log))) (sym f.era_is)
+      (subst (λ x. Represent s (takes_part at log) at (setting_of g at) (with_era at era x (local_of g at log))) e (redeclared_at at here)))
 
   -- it is in force
   pub is_redeclared : (w2 : World) (s : Sites) (t : ℕ) → t ≡ greatest_bound g log → w.marks ≢ MAX_RUN_EVENTS → AreRedeclared s g log era t
@@ -86,7 +86,7 @@ module _ (w : World) (g : Input) (log : Log) (era : Era) (f : Redeclaring w g lo
             rests = rests;
             marks_are = let n : w2.marks ≡ w.marks + 1 = ap (λ v. v.marks) same in omega (arith, n, m);
             spooled = subst (λ boxes. Spooled g more boxes U) (sym (ap (λ v. v.spool) same))
-                (spooled_on g log more w.spool U (λ d. refl) (λ d apart x rest r. record { count = r.count; messages = r.messages }) f.calm.spooled);
+                (spooled_on g log more w.spool U (λ at. refl) (λ at apart x rest r. record { count = r.count; messages = r.messages }) f.calm.spooled);
           };
           complete = none_left g more (free g more rests) f.none_behind;
         },

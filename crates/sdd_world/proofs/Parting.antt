@@ -1,5 +1,6 @@
 -- What the parts of a world represent, as the log goes on.
-use Rattle.sdd_world.proofs.All.{Act, Position, All, All-append, All-cons, All-nil, All-weaker, D, Does, Event, Hand, History, Input, KeepsFor, List, Log, Mailbox, Mark, Msg, Rec, Redeclares, Remain, Round, Site, Spooled, [], after_acts, position_of, arith, dm_no, false, history, is_down, is_down_acts, kept_from, left, left_acts, mailbox_at, map, marks, marks_acts, records_of_act, redeclares, refl, remain_acts, same_site, suc, sym, ℕ, ◌++◌, ◌∙◌, ◌∷◌, ◌≡◌, ◌≤◌}
+use Rattle.sdd_world.proofs.All.{Act, All, All-append, All-cons, All-nil, All-weaker, AllRepresent, Bool, Boxes, Does, Event, Hand, History, Input, KeepsFor, List, Log, Mailbox, Mark, Msg, Position, Rec, Redeclares, Remain, Represent, Round, Setting, Site, Sites, Spooled, StayAtOthers, [], after_acts, ap, arith, false, history, is_down, is_down_acts, kept_from, left, left_acts, local_of, log_after, mailbox_at, map, marks, marks_acts, other_acts, own_acts, position_of, records_of_act, redeclares, refl, remain_acts, same_is, same_site, setting_of, subst, suc, sym, takes_part, takes_part_acts, true, ℕ, ◌++◌, ◌∙◌, ◌∷◌, ◌≡◌, ◌≤◌}
+use Rattle.sdd_needs.specs.site_module.SiteLog as site
 
 -- no record is of a later event than the last
 
@@ -38,28 +39,53 @@ position_acts g at acts log = same_position (left g.events (after_acts at acts l
 
 -- mailboxes stay as the log goes on, where no module turns and what remains stays
 
-pub record SameDowns (log more : Log) : Type 0 where
-  pub downs : (d : ℕ) → is_down d more ≡ is_down d log
-
-pub keeps_on : (g : Input) (log more : Log) (d : ℕ) (b : Mailbox Msg) → is_down d more ≡ is_down d log
-    → ((x : Site) (rest : List Msg) → Remain log x (D (dm_no d)) rest → Remain more x (D (dm_no d)) rest) → KeepsFor g log d b → KeepsFor g more d b
-keeps_on g log more d b same remains k = record {
+pub keeps_on : (g : Input) (log more : Log) (at : Site) (b : Mailbox Msg) → is_down at more ≡ is_down at log
+    → ((x : Site) (rest : List Msg) → Remain log x at rest → Remain more x at rest) → KeepsFor g log at b → KeepsFor g more at b
+keeps_on g log more at b same remains k = record {
   down_is = k.down_is ∙ sym same;
   senders = k.senders;
   kept = λ e x. remains x (kept_from b x) (k.kept (sym same ∙ e) x);
   empty = λ e x. k.empty (sym same ∙ e) x;
 }
 
-pub spooled_on : (g : Input) (log more : Log) (boxes : List (Mailbox Msg)) (busy : Site) → ((d : ℕ) → is_down d more ≡ is_down d log)
-    → ((d : ℕ) → same_site (D (dm_no d)) busy ≡ false → (x : Site) (rest : List Msg) → Remain log x (D (dm_no d)) rest → Remain more x (D (dm_no d)) rest)
+pub spooled_on : (g : Input) (log more : Log) (boxes : Boxes Msg) (busy : Site) → ((at : Site) → is_down at more ≡ is_down at log)
+    → ((at : Site) → same_site at busy ≡ false → (x : Site) (rest : List Msg) → Remain log x at rest → Remain more x at rest)
     → Spooled g log boxes busy → Spooled g more boxes busy
 spooled_on g log more boxes busy same remains s = record {
-  count = s.count;
-  each = λ d here apart. keeps_on g log more d (mailbox_at boxes d) (same d) (remains d apart) (s.each d here apart);
+  has = s.has;
+  each = λ at here apart. keeps_on g log more at (mailbox_at boxes at) (same at) (remains at apart) (s.each at here apart);
 }
 
-pub spooled_acts : (g : Input) (at : Site) (acts : List Act) (log : Log) (boxes : List (Mailbox Msg))
-    (busy : Site) → Spooled g log boxes busy → Spooled g (after_acts at acts log) boxes busy
+pub spooled_acts : (g : Input) (at : Site) (acts : List Act) (log : Log) (boxes : Boxes Msg) (busy : Site)
+    → Spooled g log boxes busy → Spooled g (after_acts at acts log) boxes busy
 spooled_acts g at acts log boxes busy s =
-    spooled_on g log (after_acts at acts log) boxes busy (λ d. is_down_acts d at acts log)
-    (λ d apart x rest r. remain_acts at acts log x (D (dm_no d)) rest r) s
+    spooled_on g log (after_acts at acts log) boxes busy (λ b. is_down_acts b at acts log) (λ b apart x rest r. remain_acts at acts log x b rest r) s
+
+-- the modules, as the log goes on
+
+-- where a site takes part as before and its log stays
+pub represent_on : (m : Sites) (at : Site) (p q : Bool) (setting : Setting) (l k : site.Log) → q ≡ p → k ≡ l
+    → Represent m p at setting l → Represent m q at setting k
+represent_on m at p q setting l k e f h = subst (λ z. Represent m z at setting k) (sym e) (subst (λ z. Represent m p at setting z) (sym f) h)
+
+pub all_on : (m : Sites) (g : Input) (log more : Log) → ((at : Site) → takes_part at more ≡ takes_part at log)
+    → ((at : Site) → local_of g at more ≡ local_of g at log) → AllRepresent m g log → AllRepresent m g more
+all_on m g log more part same all at here =
+    represent_on m at (takes_part at log) (takes_part at more) (setting_of g at) (local_of g at log) (local_of g at more) (part at) (same at) (all at here)
+
+-- one module did what is due, and the others stay
+pub all_after : (old new : Sites) (g : Input) (log base : Log) (at : Site) (acts : List Act) (l : site.Log)
+    → ((x : Site) → same_site x at ≡ false → takes_part x base ≡ takes_part x log)
+    → ((x : Site) → same_site x at ≡ false → local_of g x base ≡ local_of g x log) → local_of g at base ≡ l
+    → Represent new (takes_part at base) at (setting_of g at) (log_after acts l) → StayAtOthers old new at
+    → AllRepresent old g log → AllRepresent new g (after_acts at acts base)
+all_after old new g log base at acts l part same own after others all x here =
+    let more : Log = after_acts at acts base in
+    elim (same_site x at) as (λ c. same_site x at ≡ c → Represent new (takes_part x more) x (setting_of g x) (local_of g x more)) [
+      | true ↦ λ p. subst (λ z. Represent new (takes_part z more) z (setting_of g z) (local_of g z more)) (sym (same_is x at p))
+          (represent_on new at (takes_part at base) (takes_part at more) (setting_of g at) (log_after acts l) (local_of g at more)
+          (takes_part_acts at at acts base) (own_acts g at acts base ∙ ap (λ k. log_after acts k) own) after)
+      | false ↦ λ p. represent_on new x (takes_part x log) (takes_part x more) (setting_of g x) (local_of g x log) (local_of g x more)
+          (takes_part_acts x at acts base ∙ part x p) (other_acts g x at acts base p ∙ same x p)
+          (others x (takes_part x log) (setting_of g x) (local_of g x log) p (all x here))
+    ] refl

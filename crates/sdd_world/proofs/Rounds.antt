@@ -1,43 +1,54 @@
 -- Rounds, settles and single events, over plain worlds.
-use Rattle.sdd_world.proofs.All.{AtEach, Before, Call, Calm, Carries, EndsBy, Event, Happened, Input, OnlyMarksAreDue, IsGood, IsPossible, IsSettled, IsSingle, IsSoundNetwork, List, Log, MAX_RUN_EVENTS, Mailbox, Mark, Marked, Msg, Parts, Redeclare, Represent, Represents, Rests, Round, Rounding, Settle, Settling, Site, Some, Spooled, TakesRounds, U, World, [], after_mark, all_links, ap, arith, calls_of, each_of_round, event_left, false, few_marks, in_round, lawful_grows, left, length, links, local_of, lt-ltb, marks, next, no_events_quiet, none_left, none_to_hand, one_more, quiet, refl, round, round_next, setting_of, settled, still_none, subst, suc, sym, takes_part, true, with_event, ℕ, ◌++◌, ◌+◌, ◌<◌, ◌∙◌, ◌∷◌, ◌≡◌, ◌≢◌, ◌≤◌}
-use Rattle.sdd_world.proofs.Parting.{spooled_on}
+use Rattle.sdd_world.proofs.All.{AllRepresent, AtEach, Before, Boxes, Call, Calm, Carries, D, Down, EndsBy, Event, Happened, Input, OnlyMarksAreDue, IsGood, IsModuleOf, IsPossible, IsSettled, IsSingle, IsSoundNetwork, List, Log, MAX_RUN_EVENTS, Mark, Marked, Msg, Parts, Redeclare, Represent, Represents, Rests, Round, Rounding, Settle, Settling, Site, Some, Spooled, T, TakesRounds, U, Up, World, [], after_mark, all_links, ap, arith, calls_of, each_of_round, event_left, false, few_marks, in_round, lawful_grows, left, length, links, local_of, lt-ltb, marks, next, no_events_quiet, none_left, none_to_hand, one_more, quiet, refl, round, round_next, setting_of, settled, still_none, subst, suc, sym, takes_part, true, with_event, ℕ, ◌++◌, ◌+◌, ◌<◌, ◌∙◌, ◌∷◌, ◌≡◌, ◌≢◌, ◌≤◌}
+use Rattle.sdd_world.proofs.Parting.{all_on, spooled_on}
 
 pub single : (g : Input) (e : Event) → IsPossible g e → IsSingle e
 single g Settle p = absurd p
 single g Redeclare p = absurd p
 single g _ p = tt
 
+module_more : (g : Input) (e : Event) (at : Site) → IsModuleOf g at → IsModuleOf (with_event g e) at
+module_more g e U h = absurd h
+module_more g e (T n) h = h
+module_more g e (D n) h = h
+
 still_possible : (g : Input) (x e : Event) → IsPossible g e → IsPossible (with_event g x) e
 still_possible g x Settle p = absurd p
 still_possible g x Redeclare p = absurd p
+still_possible g x (Down at) p = module_more g x at p
+still_possible g x (Up at) p = module_more g x at p
 still_possible g x _ p = p
 
 pub free : (g : Input) (log : Log) → Rests g log → OnlyMarksAreDue g log
 free g log r = record { no_mark = r.no_mark; no_site = r.no_site; no_hand = none_to_hand g log r.handed_all }
-
-part_round : (b : Site) (es : List Event) (log : Log) → takes_part b (Round es ∷ log) ≡ takes_part b log
-part_round U es log = refl
-part_round _ es log = refl
 
 rests_round : (g : Input) (log : Log) (es : List Event) → Rests g log → next g log ≡ Some (Round es) → Rests g (Round es ∷ log)
 rests_round g log es r n = record {
   lawful = (n, r.lawful);
   within = (refl, r.within);
   no_mark = refl;
-  no_site = still_none g log (Round es ∷ log) (λ x. refl) r.no_site;
-  handed_all = λ a b p. r.handed_all a b (sym (part_round b es log) ∙ p);
+  no_site = still_none g log (Round es ∷ log) (λ x part. part) (λ x. refl) r.no_site;
+  handed_all = λ a b p. r.handed_all a b p;
 }
 
 pub rests_more : (g : Input) (e : Event) (log : Log) → Rests g log → Rests (with_event g e) log
 rests_more g e log r = record { lawful = lawful_grows g e log r.lawful; within = r.within; no_mark = r.no_mark; no_site = r.no_site; handed_all = r.handed_all }
 
-spool_round : (g : Input) (es : List Event) (log : Log) (boxes : List (Mailbox Msg)) → Spooled g log boxes U → Spooled g (Round es ∷ log) boxes U
-spool_round g es log boxes s = spooled_on g log (Round es ∷ log) boxes U (λ d. refl) (λ d apart x rest r. record { count = r.count; messages = r.messages }) s
+still_module : (g : Input) (e : Event) (at : Site) → IsModuleOf (with_event g e) at → IsModuleOf g at
+still_module g e U h = absurd h
+still_module g e (T n) h = h
+still_module g e (D n) h = h
 
-spool_more : (g : Input) (e : Event) (log : Log) (boxes : List (Mailbox Msg)) → Spooled g log boxes U → Spooled (with_event g e) log boxes U
+spool_round : (g : Input) (es : List Event) (log : Log) (boxes : Boxes Msg) → Spooled g log boxes U → Spooled g (Round es ∷ log) boxes U
+spool_round g es log boxes s = spooled_on g log (Round es ∷ log) boxes U (λ at. refl) (λ at apart x rest r. record { count = r.count; messages = r.messages }) s
+
+spool_more : (g : Input) (e : Event) (log : Log) (boxes : Boxes Msg) → Spooled g log boxes U → Spooled (with_event g e) log boxes U
 spool_more g e log boxes s = record {
-  count = s.count;
-  each = λ d here apart. (let k = s.each d here apart in record { down_is = k.down_is; senders = k.senders; kept = k.kept; empty = k.empty });
+  has = record { tms = s.has.tms; count = s.has.count };
+  each = λ at here apart.
+      (let k = s.each at (still_module g e at here) apart in
+      let n = k.senders in
+      record { down_is = k.down_is; senders = record { tms = n.tms; count = n.count; linked = n.linked }; kept = k.kept; empty = k.empty });
 }
 
 sound_more : (g : Input) (e : Event) → IsSoundNetwork g → IsSoundNetwork (with_event g e)
@@ -61,7 +72,7 @@ round_opened w g log to events s q f =
           txns_are = s.calm.parts.txns_are;
           given_is = s.calm.parts.given_is;
           history_is = s.calm.parts.history_is;
-          sites = s.calm.parts.sites;
+          sites = all_on w.sites g log (Round events ∷ log) (λ x. refl) (λ x. refl) s.calm.parts.sites;
           net = s.calm.parts.net;
         };
         rests = rests_round g log events s.calm.rests n;
@@ -141,7 +152,7 @@ given_more w w2 g log e good c same pushed = record {
     txns_are = ap (λ v. v.txns) same ∙ c.parts.txns_are;
     given_is = pushed ∙ ap (λ xs. xs ++ e ∷ []) c.parts.given_is;
     history_is = ap (λ v. v.history) same ∙ c.parts.history_is;
-    sites = λ x here. subst (λ z. Represent z x (setting_of g x) (local_of g x log)) (sym (ap (λ v. v.sites) same)) (c.parts.sites x here);
+    sites = λ x here. subst (λ z. Represent z (takes_part x log) x (setting_of g x) (local_of g x log)) (sym (ap (λ v. v.sites) same)) (c.parts.sites x here);
     net = subst (λ z. Carries z g.catalogue.tms g.catalogue.dms (calls_of log)) (sym (ap (λ v. v.net) same)) c.parts.net;
   };
   rests = rests_more g e log c.rests;
@@ -209,7 +220,7 @@ marked_next w w2 g log e e2 b is left same =
         txns_are = ap (λ v. v.txns) same ∙ parts.txns_are;
         given_is = ap (λ v. v.given.items) same ∙ parts.given_is;
         history_is = ap (λ v. v.history) same ∙ parts.history_is;
-        sites = λ x here. subst (λ z. Represent z x (setting_of g x) (local_of g x log)) (sym (ap (λ v. v.sites) same)) (parts.sites x here);
+        sites = subst (λ z. AllRepresent z g log) (sym (ap (λ v. v.sites) same)) parts.sites;
         net = subst (λ z. Carries z g.catalogue.tms g.catalogue.dms (calls_of log)) (sym (ap (λ v. v.net) same)) parts.net;
       };
       marked = record { rests = b.calm.rests; next_is = b.next_is ∙ ap (λ x. Some (Mark x)) is; few = omega (arith, f, left, m) };

@@ -1,6 +1,6 @@
 -- Which log a world represents, between events and within one.
-use Rattle.std.specs.Prelude.{ℕ, suc, ◌≤◌, ◌≡◌, true, false, List, [], ◌∷◌, ◌++◌, length, Some, None}
-use Rattle.sdd_needs.specs.All.{AtEach, Catalogue, D, Deliver, EndsByLimit, EndsIn, Era, Event, Input, IsGood, IsLinkOf, IsMarked, IsPossible, IsSiteOf, Log, MAX_DMS, MAX_TMS, Mailbox, Mark, Messages, Msg, Redeclares, Remain, Rests, Site, TakesRounds, Txn, U, Waits, after_mark, all_links, calls_of, delivery, dm_no, from_one, greatest_bound, history, is_down, kept_from, left, link_of, mailbox_at, marks, next, nth_era, quiet, redeclares, redeclares_in, same_site, txn_at}
+use Rattle.std.specs.Prelude.{ℕ, suc, ◌≤◌, ◌≡◌, true, false, List, [], ◌∷◌, ◌++◌, ◌+◌, length, Some, None}
+use Rattle.sdd_needs.specs.All.{AtEach, Boxes, Catalogue, Deliver, EndsByLimit, EndsIn, Era, Event, Input, IsGood, IsLinkOf, IsMarked, IsModuleOf, IsPossible, Log, MAX_DMS, MAX_TMS, Mailbox, Mark, Messages, Msg, Redeclares, Remain, Rests, Site, TakesRounds, Txn, U, Up, Waits, after_mark, all_links, calls_of, delivery, from_one, greatest_bound, history, is_down, is_link, kept_from, left, link_of, mailbox_at, marks, next, nth_era, quiet, redeclares, redeclares_in, same_site, txn_at}
 use Rattle.sdd_needs.specs.protocol.declared.entry.Entry.{Entry}
 use Rattle.sdd_needs.specs.lang.Fits.{FitsTxn}
 use Rattle.sdd_world.specs.Carries.{Carries}
@@ -13,34 +13,45 @@ pub record IsSoundNetwork (g : Input) : Type 0 where
   pub few_dms : g.catalogue.dms ≤ MAX_DMS
   pub txns_fit : (n : ℕ) (txn : Txn) → txn_at g n ≡ Some txn → FitsTxn g.catalogue txn
 
--- the mailbox of a data module: it keeps what remains for a module that is down, and else nothing
-pub record KeepsFor (g : Input) (log : Log) (d : ℕ) (b : Mailbox Msg) : Type 0 where
-  pub down_is : b.down ≡ is_down d log
-  pub senders : length b.queues ≡ suc g.catalogue.tms
-  pub kept : is_down d log ≡ true → (x : Site) → Remain log x (D (dm_no d)) (kept_from b x)
-  pub empty : is_down d log ≡ false → (x : Site) → kept_from b x ≡ []
+-- the mailbox of a module has a place for each site, and keeps messages of those alone that are linked with the module
+pub record HasSenders (g : Input) (at : Site) (b : Mailbox Msg) : Type 0 where
+  pub tms : b.tms ≡ g.catalogue.tms
+  pub count : length b.queues ≡ suc (g.catalogue.tms + g.catalogue.dms)
+  pub linked : (x : Site) → is_link g.catalogue.tms g.catalogue.dms x at ≡ false → kept_from b x ≡ []
 
--- the mailboxes of all data modules but that of a site
-pub record Spooled (g : Input) (log : Log) (boxes : List (Mailbox Msg)) (busy : Site) : Type 0 where
-  pub count : length boxes ≡ g.catalogue.dms
-  pub each : (d : ℕ) → IsSiteOf g (D (dm_no d)) → same_site (D (dm_no d)) busy ≡ false → KeepsFor g log d (mailbox_at boxes d)
+-- and the spool a mailbox for each site
+pub record HasBoxes (g : Input) (boxes : Boxes Msg) : Type 0 where
+  pub tms : boxes.tms ≡ g.catalogue.tms
+  pub count : length boxes.boxes ≡ suc (g.catalogue.tms + g.catalogue.dms)
+
+-- the mailbox of a module: it keeps what remains for a module that is down, and else nothing
+pub record KeepsFor (g : Input) (log : Log) (at : Site) (b : Mailbox Msg) : Type 0 where
+  pub down_is : b.down ≡ is_down at log
+  pub senders : HasSenders g at b
+  pub kept : is_down at log ≡ true → (x : Site) → Remain log x at (kept_from b x)
+  pub empty : is_down at log ≡ false → (x : Site) → kept_from b x ≡ []
+
+-- the mailboxes of all modules but that of a site
+pub record Spooled (g : Input) (log : Log) (boxes : Boxes Msg) (busy : Site) : Type 0 where
+  pub has : HasBoxes g boxes
+  pub each : (at : Site) → IsModuleOf g at → same_site at busy ≡ false → KeepsFor g log at (mailbox_at boxes at)
 
 -- messages of one site are being put into the mailbox of a module that is down, and these are left
-pub record Keeping (g : Input) (log : Log) (boxes : List (Mailbox Msg)) (from : Site) (d : ℕ) (rest : List Msg) : Type 0 where
-  pub here : IsSiteOf g (D (dm_no d))
-  pub linked : IsLinkOf g from (D (dm_no d))
-  pub is_down : is_down d log ≡ true
-  pub box_down : (mailbox_at boxes d).down ≡ true
-  pub senders : length (mailbox_at boxes d).queues ≡ suc g.catalogue.tms
-  pub kept : (x : Site) → Remain log x (D (dm_no d)) (kept_from (mailbox_at boxes d) x ++ from_one from rest x)
-  pub others : Spooled g log boxes (D (dm_no d))
+pub record Keeping (g : Input) (log : Log) (boxes : Boxes Msg) (from at : Site) (rest : List Msg) : Type 0 where
+  pub here : IsModuleOf g at
+  pub linked : IsLinkOf g from at
+  pub is_down : is_down at log ≡ true
+  pub box_down : (mailbox_at boxes at).down ≡ true
+  pub senders : HasSenders g at (mailbox_at boxes at)
+  pub kept : (x : Site) → Remain log x at (kept_from (mailbox_at boxes at) x ++ from_one from rest x)
+  pub others : Spooled g log boxes at
 
 -- the mailbox of a module that came up, while what was kept is handed over
-pub record Rising (g : Input) (boxes : List (Mailbox Msg)) (d : ℕ) : Type 0 where
-  pub here : IsSiteOf g (D (dm_no d))
-  pub count : length boxes ≡ g.catalogue.dms
-  pub box_up : (mailbox_at boxes d).down ≡ false
-  pub senders : length (mailbox_at boxes d).queues ≡ suc g.catalogue.tms
+pub record Rising (g : Input) (boxes : Boxes Msg) (at : Site) : Type 0 where
+  pub here : IsModuleOf g at
+  pub has : HasBoxes g boxes
+  pub box_up : (mailbox_at boxes at).down ≡ false
+  pub senders : HasSenders g at (mailbox_at boxes at)
 
 -- the parts of a world represent a log
 pub record Parts (w : World) (g : Input) (log : Log) : Type 0 where
@@ -107,7 +118,7 @@ pub record Happened (w : World) (g : Input) (log : Log) : Type 0 where
   pub position_is : position_of g more ≡ after_event g log
 
 -- messages were handed over, and these are left
-pub record HandedOn (w : World) (g : Input) (b : Site) (kept : Site → List Msg) (position : Position) (boxes : List (Mailbox Msg)) : Type 0 where
+pub record HandedOn (w : World) (g : Input) (b : Site) (kept : Site → List Msg) (position : Position) (boxes : Boxes Msg) : Type 0 where
   pub more : Log
   pub handing : Handing w g more b kept
   pub position_is : position_of g more ≡ position
@@ -164,10 +175,27 @@ pub record Arrives (w now : World) (g : Input) (log : Log) (a b : Site) (k : ℕ
   pub same : now ≡ record w { net = now.net }
   pub net : Carries now.net g.catalogue.tms g.catalogue.dms (calls_of (Mark (Deliver a b k) ∷ log))
 
--- all that was kept for a module is handed over
-pub record Risen (now : World) (g : Input) (log : Log) (d : ℕ) : Type 0 where
+-- a module came up, and hasn't done yet what is due: what was kept for it is to be handed over after that
+pub record Resuming (w : World) (g : Input) (log : Log) (at : Site) : Type 0 where
+  pub marked : IsMarked g log (Up at)
+  pub was_down : is_down at log ≡ true
+  pub parts : Parts w g log
+  pub marks_are : w.marks ≡ suc (marks log)
+  pub kept : (x : Site) → Remain log x at (kept_from (mailbox_at w.spool at) x)
+  pub rising : Rising g w.spool at
+  pub others : Spooled g (Mark (Up at) ∷ log) w.spool at
+
+-- it has done that
+pub record Resumed (now : World) (g : Input) (log : Log) (at : Site) : Type 0 where
   pub more : Log
-  pub handing : Handing now g more (D (dm_no d)) (kept_from (mailbox_at now.spool d))
-  pub rising : Rising g now.spool d
+  pub handing : Handing now g more at (kept_from (mailbox_at now.spool at))
+  pub rising : Rising g now.spool at
+  pub position_is : position_of g more ≡ position_of g (Mark (Up at) ∷ log)
+
+-- all that was kept for a module is handed over
+pub record Risen (now : World) (g : Input) (log : Log) (at : Site) : Type 0 where
+  pub more : Log
+  pub handing : Handing now g more at (kept_from (mailbox_at now.spool at))
+  pub rising : Rising g now.spool at
   pub position_is : position_of g more ≡ position_of g log
-  pub none : (x : Site) → kept_from (mailbox_at now.spool d) x ≡ []
+  pub none : (x : Site) → kept_from (mailbox_at now.spool at) x ≡ []

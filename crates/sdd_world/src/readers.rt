@@ -1,6 +1,6 @@
 ghost use Rattle.std.specs.Prelude.{◌≡◌, ◌≤◌, [], ℕ, List, length, true, IfOk, IsTrue};
 ghost use Rattle.std.specs.Option.{option_copied};
-ghost use Rattle.sdd_needs.specs.All.{Call, D, Input, IsAwaited, IsEraOf, IsGood, IsLinkOf, IsSiteOf, Log, Msg, Represent, Site, T, U, all_links, calls_of, dated, handed, has_copy, history, is_down, is_here, local_of, marks, nth_era, number_of, quiet, redeclares, setting_of};
+ghost use Rattle.sdd_needs.specs.All.{Call, D, Input, IsAwaited, IsEraOf, IsGood, IsLinkOf, IsModuleOf, IsSiteOf, Log, Msg, Represent, Site, T, U, all_links, calls_of, dated, handed, has_copy, history, is_down, is_here, local_of, marks, nth_era, number_of, quiet, redeclares, setting_of, takes_part};
 ghost use Rattle.sdd_world.specs.Beginnings.{IsBegun};
 ghost use Rattle.sdd_world.specs.Carries.{Carries};
 ghost use Rattle.sdd_world.specs.Modules.{AllRepresent, LivesD, LivesT, LivesU};
@@ -109,7 +109,7 @@ impl<'a> World<'a> {
     pub fn txn_module(&self, tm: TmNo) -> &TxnModule<'a>
         requires { (g : Input) × (log : Log) × IsSiteOf g (T tm) × Represents self.now g log }
         ensures { (g : Input) (log : Log) → IsSiteOf g (T tm) → Represents self.now g log
-            → LivesT result.now (setting_of g (T tm)) (local_of g (T tm) log) }
+            → LivesT (takes_part (T tm) log) result.now (setting_of g (T tm)) (local_of g (T tm) log) }
     {
         self.sites.txn_module(tm)
     }
@@ -138,13 +138,13 @@ impl<'a> World<'a> {
         &self.net
     }
 
-    /// Whether a data module is down. Takes no memory.
-    pub fn is_down(&self, dm: DmNo) -> bool
-        requires { (g : Input) × (log : Log) × IsSiteOf g (D dm) × Calm self.now g log }
-        ensures { (g : Input) (log : Log) → IsSiteOf g (D dm) → Calm self.now g log
-            → result ≡ is_down dm.0 log }
+    /// Whether a module is down, a transaction module or a data module. Takes no memory.
+    pub fn is_down(&self, at: Site) -> bool
+        requires { (g : Input) × (log : Log) × IsModuleOf g at × Calm self.now g log }
+        ensures { (g : Input) (log : Log) → IsModuleOf g at → Calm self.now g log
+            → result ≡ is_down at log }
     {
-        self.spool.is_down(dm)
+        self.spool.is_down(at)
     }
 
     /// The messages from 1 to this number of a link are handed to the site where it ends. Takes no
@@ -157,10 +157,7 @@ impl<'a> World<'a> {
         let delivered = self.net.direction(from, to).receiver.count();
         match to {
             Site::U => delivered,
-            Site::T(_) => delivered,
-            Site::D(dm) => {
-                (delivered as usize).saturating_sub(self.spool.count_kept(dm, from)) as u32
-            }
+            _ => (delivered as usize).saturating_sub(self.spool.count_kept(to, from)) as u32,
         }
     }
 

@@ -1,15 +1,15 @@
 ghost use Rattle.std.specs.Prelude.{◌≡◌, ◌<◌, ◌≤◌, All, ◌++◌, [], ◌∷◌, true, false, ℕ, List, Some, IfOk, OnOk, IsErrOf, MatchOption};
-ghost use Rattle.sdd_needs.specs.All.{D, Deliver, Down, Event, Input, IsFirst, IsGood, IsLinkOf, IsPossible, IsSiteOf, Log, Lose, Msg, Repeat, Resend, Settle, Site, Submit, TakesAway, Tick, U, Up, all_links, calls_of, from_one, history, is_down, kept_from, mailbox_at, quiet, takes_part, with_event};
+ghost use Rattle.sdd_needs.specs.All.{Deliver, Down, Event, Input, IsFirst, IsGood, IsLinkOf, IsPossible, IsSiteOf, Log, Lose, Msg, Repeat, Resend, Settle, Site, Submit, TakesAway, Tick, U, Up, all_links, calls_of, from_one, kept_from, mailbox_at, quiet, takes_part as takes_part_in, with_event};
 ghost use Rattle.sdd_world.specs.declared.world.World.{World};
 ghost use Rattle.sdd_world.specs.Following.{MaySend, Followed, IsPast};
-ghost use Rattle.sdd_world.specs.Represents.{position_of, Arrives, Before, EndsBy, HandedOn, Handing, Happened, IsSettled, Keeping, Marked, Rising, Risen, Settles, Settling, Spooled, Represents};
+ghost use Rattle.sdd_world.specs.Represents.{position_of, Arrives, Before, EndsBy, HandedOn, Handing, Happened, IsSettled, Keeping, Marked, Resumed, Resuming, Rising, Risen, Settles, Settling, Spooled, Represents};
 
 use crate::ends::WorldEnd;
 use crate::homes::home_in;
 use crate::mail::Mail;
 use crate::putting::{record_all, send_all};
 use crate::sites::Sites;
-use sdd_base::{DmNo, Event, Listed, NoMemory, Site, TmNo, TxnNo};
+use sdd_base::{Event, Listed, NoMemory, Site, TmNo, TxnNo};
 use sdd_catalog::Catalogue;
 use sdd_history::{History, Rec};
 use sdd_lang::{Txn, class_for};
@@ -32,6 +32,18 @@ pub struct World<'a> {
     pub(crate) sites: Sites<'a>,
     pub(crate) net: Mail,
     pub(crate) spool: Spool<Msg>,
+}
+
+/// Whether the site takes part, and doesn't wait for its module to come up.
+fn takes_part(spool: &Spool<Msg>, at: Site) -> bool
+    requires { (g : Input) × (log : Log) × IsSiteOf g at × Spooled g log spool.now U }
+    ensures { (g : Input) (log : Log) → IsSiteOf g at → Spooled g log spool.now U
+        → result ≡ takes_part_in at log }
+{
+    match at {
+        Site::U => true,
+        _ => !spool.is_down(at),
+    }
 }
 
 impl<'a> World<'a> {
@@ -123,35 +135,17 @@ impl<'a> World<'a> {
         self.record_nothing()
     }
 
-    /// The data module at the site, where it is down.
-    fn down_module(&self, at: Site) -> Option<DmNo>
-        requires { (g : Input) × (log : Log) × IsSiteOf g at × Spooled g log self.now.spool U }
-        ensures { (g : Input) (log : Log) → IsSiteOf g at → Spooled g log self.now.spool U
-            → MatchOption result (takes_part at log ≡ true)
-            (λ dm. (at ≡ D dm) × (is_down dm.0 log ≡ true)) }
-    {
-        match at {
-            Site::D(dm) => {
-                if self.spool.is_down(dm) {
-                    return Some(dm);
-                }
-                None
-            }
-            _ => None,
-        }
-    }
-
     /// Keeps messages of one site for a module that is down.
-    fn keep_all(&mut self, from: Site, dm: DmNo, messages: Parcels<Msg>) -> Result<(), NoMemory>
-        requires { (g : Input) × (log : Log) × Keeping g log self.old.spool from dm.0 messages }
+    fn keep_all(&mut self, from: Site, at: Site, messages: Parcels<Msg>) -> Result<(), NoMemory>
+        requires { (g : Input) × (log : Log) × Keeping g log self.old.spool from at messages }
         ensures same { OnOk result (self.new ≡ record self.old { spool = self.new.spool }) }
         ensures kept { OnOk result ((g : Input) (log : Log)
-            → Keeping g log self.old.spool from dm.0 messages
-            → Keeping g log self.new.spool from dm.0 []) }
+            → Keeping g log self.old.spool from at messages
+            → Keeping g log self.new.spool from at []) }
     {
         let mut queue = VecDeque::from_vec(messages.into_vec());
         while let Some(msg) = queue.pop_front() {
-            self.spool.put(dm, from, msg)?;
+            self.spool.put(at, from, msg)?;
         }
         Ok(())
     }
@@ -166,10 +160,10 @@ impl<'a> World<'a> {
         ensures limit { IsErrOf result WorldEnd.Limit → (g : Input) (log : Log) (w : World)
             (place : ℕ) → Arrives w self.old g log from to place messages → EndsBy g }
     {
-        match self.down_module(to) {
-            Some(dm) => Ok(self.keep_all(from, dm, messages)?),
-            None => self.hand_all(from, to, messages),
+        if takes_part(&self.spool, to) {
+            return self.hand_all(from, to, messages);
         }
+        Ok(self.keep_all(from, to, messages)?)
     }
 
     fn deliver(&mut self, from: Site, to: Site, place: u32) -> Result<(), WorldEnd>
@@ -186,12 +180,12 @@ impl<'a> World<'a> {
         }
     }
 
-    fn go_down(&mut self, dm: DmNo) -> Result<(), NoMemory>
-        requires { (g : Input) × (log : Log) × Marked self.old g log (Down dm) }
-        ensures { OnOk result ((g : Input) (log : Log) → Marked self.old g log (Down dm)
+    fn go_down(&mut self, at: Site) -> Result<(), NoMemory>
+        requires { (g : Input) × (log : Log) × Marked self.old g log (Down at) }
+        ensures { OnOk result ((g : Input) (log : Log) → Marked self.old g log (Down at)
             → Happened self.new g log) }
     {
-        if self.spool.down(dm) {
+        if self.spool.down(at) {
             return Ok(());
         }
         self.record_nothing()
@@ -199,33 +193,50 @@ impl<'a> World<'a> {
 
     /// Hands over what is kept for a module that came up: one message, with all that it makes due,
     /// after the other.
-    fn hand_kept(&mut self, dm: DmNo) -> Result<(), WorldEnd>
-        requires { (g : Input) × (log : Log) × Handing self.old g log (D dm)
-            (kept_from (mailbox_at self.old.spool dm.0)) × Rising g self.old.spool dm.0 }
-        ensures ok { IfOk result (λ _. (g : Input) (log : Log) → Handing self.old g log (D dm)
-            (kept_from (mailbox_at self.old.spool dm.0)) → Rising g self.old.spool dm.0
-            → Risen self.new g log dm.0) }
+    fn hand_kept(&mut self, at: Site) -> Result<(), WorldEnd>
+        requires { (g : Input) × (log : Log) × Handing self.old g log at
+            (kept_from (mailbox_at self.old.spool at)) × Rising g self.old.spool at }
+        ensures ok { IfOk result (λ _. (g : Input) (log : Log) → Handing self.old g log at
+            (kept_from (mailbox_at self.old.spool at)) → Rising g self.old.spool at
+            → Risen self.new g log at) }
         ensures limit { IsErrOf result WorldEnd.Limit → (g : Input) (log : Log)
-            → Handing self.old g log (D dm) (kept_from (mailbox_at self.old.spool dm.0))
-            → Rising g self.old.spool dm.0 → EndsBy g }
+            → Handing self.old g log at (kept_from (mailbox_at self.old.spool at))
+            → Rising g self.old.spool at → EndsBy g }
     {
-        while let Some((from, msg)) = self.spool.take(dm) {
-            self.hand(from, Site::D(dm), msg)?;
+        while let Some((from, msg)) = self.spool.take(at) {
+            self.hand(from, at, msg)?;
         }
         Ok(())
     }
 
-    fn come_up(&mut self, dm: DmNo) -> Result<(), WorldEnd>
-        requires { (g : Input) × (log : Log) × Marked self.old g log (Up dm) }
-        ensures ok { IfOk result (λ _. (g : Input) (log : Log) → Marked self.old g log (Up dm)
+    /// A module that came up does what is due, before what was kept for it is handed over. At a
+    /// data module nothing is: it acts on messages alone.
+    fn resume(&mut self, at: Site) -> Result<(), WorldEnd>
+        requires { (g : Input) × (log : Log) × Resuming self.old g log at }
+        ensures ok { IfOk result (λ _. (g : Input) (log : Log) → Resuming self.old g log at
+            → Resumed self.new g log at) }
+        ensures limit { IsErrOf result WorldEnd.Limit → (g : Input) (log : Log)
+            → Resuming self.old g log at → EndsBy g }
+    {
+        let Site::T(tm) = at else {
+            return Ok(());
+        };
+        let outcome = self.sites.resume(tm)?;
+        self.follow(at, outcome)
+    }
+
+    fn come_up(&mut self, at: Site) -> Result<(), WorldEnd>
+        requires { (g : Input) × (log : Log) × Marked self.old g log (Up at) }
+        ensures ok { IfOk result (λ _. (g : Input) (log : Log) → Marked self.old g log (Up at)
             → Happened self.new g log) }
         ensures limit { IsErrOf result WorldEnd.Limit → (g : Input) (log : Log)
-            → Marked self.old g log (Up dm) → EndsBy g }
+            → Marked self.old g log (Up at) → EndsBy g }
     {
-        if !self.spool.up(dm) {
+        if !self.spool.up(at) {
             return Ok(self.record_nothing()?);
         }
-        self.hand_kept(dm)
+        self.resume(at)?;
+        self.hand_kept(at)
     }
 
     fn submit(&mut self, number: TxnNo) -> Result<(), WorldEnd>
@@ -238,7 +249,11 @@ impl<'a> World<'a> {
         let txn = &self.txns.as_slice()[number.0 as usize - 1];
         let class = class_for(self.catalogue, txn);
         let at = home_in(txn, class);
-        let outcome = self.sites.submit(at, class, number, txn)?;
+        if takes_part(&self.spool, at) {
+            let outcome = self.sites.submit(at, class, number, txn)?;
+            return self.follow(at, outcome);
+        }
+        let outcome = self.sites.queue(at, class, number, txn)?;
         self.follow(at, outcome)
     }
 
@@ -271,8 +286,8 @@ impl<'a> World<'a> {
                 self.tick(*tm, *n);
                 Ok(())
             }
-            Event::Down(dm) => Ok(self.go_down(*dm)?),
-            Event::Up(dm) => self.come_up(*dm),
+            Event::Down(at) => Ok(self.go_down(*at)?),
+            Event::Up(at) => self.come_up(*at),
             Event::Settle | Event::Redeclare => Ok(()),
         }
     }

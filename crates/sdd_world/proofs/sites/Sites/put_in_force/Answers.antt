@@ -1,4 +1,4 @@
-use Rattle.sdd_world.proofs.All.{Era, T, arith, local_of, setting_of, subst, tm_no, ◌≤◌}
+use Rattle.sdd_world.proofs.All.{Era, T, arith, local_of, setting_of, subst, takes_part, tm_no, ◌≤◌}
 use Rattle.sdd_world.proofs.NextEra.{all_redeclared, none_redeclared, one_redeclared, t_here, t_represents}
 use Rattle.sdd_world.proofs.sites.Sites.put_in_force.Goals as goal
 
@@ -19,7 +19,7 @@ redeclare-requires c =
     let era : Era = record { catalogue = c.args.catalogue.now; table = c.args.table.now } in
     let high : n ≤ c.args.catalogue.now.tms = omega arith in
     let here = t_here i.0 n (omega arith) (subst (λ k. n ≤ k) i.2.era.tms high) in
-    (setting_of i.0 at, local_of i.0 at i.1, t_represents c.loop-number.self i.0 i.1 era c.args.t.0 n i.3 here, i.2)
+    (takes_part at i.1, setting_of i.0 at, local_of i.0 at i.1, t_represents c.loop-number.self i.0 i.1 era c.args.t.0 n i.3 here, i.2)
 
 pub loop-number-preserved : goal.loop-number-preserved
 loop-number-preserved c =

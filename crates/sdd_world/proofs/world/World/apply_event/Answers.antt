@@ -13,7 +13,7 @@ pub returns-in-Up-clause-ok : goal.returns-in-Up-clause-ok
 returns-in-Up-clause-ok c = map_ok c.come_up.result _ _ c.come_up.ensures.ok (λ x f given log b.
     f given log (marked_next
     c.args.self.now (record c.args.self.now { marks = c.args.self.now.marks + 1 }) given log
-    c.args.event.now (Up c.in-Up.dm) b c.in-Up.is c.if-self.false refl))
+    c.args.event.now (Up c.in-Up.at) b c.in-Up.is c.if-self.false refl))
 
 pub returns-then-self-clause-limit : goal.returns-then-self-clause-limit
 returns-then-self-clause-limit c = λ e given log b. marks_end c.args.self.now given log c.args.event.now b c.if-self.true
