@@ -108,7 +108,8 @@ pub use Rattle.sdd_progress.proofs.lawful.SameCopies.{same_copy}
 pub use Rattle.sdd_progress.proofs.lawful.Submissions.{given_at, one_submit, submit_in}
 pub use Rattle.sdd_progress.proofs.lawful.Together.{copies as left_in_copies, replies}
 pub use Rattle.sdd_progress.proofs.ClassSites.{in_runs}
-pub use Rattle.sdd_progress.proofs.EventOver.{none_at_data, none_due, over_at_end, over_before}
+pub use Rattle.sdd_progress.proofs.EventOver.{none_due, over_at_end, over_before}
+pub use Rattle.sdd_progress.proofs.NothingDue.{none_at_data}
 pub use Rattle.sdd_progress.proofs.FreeClasses.{never_rejected, never_waits}
 pub use Rattle.sdd_progress.proofs.OfLawful.{answered_by_end}
 pub use Rattle.sdd_progress.proofs.Rejected.{rejected}
@@ -154,7 +155,6 @@ pub use Rattle.sdd_script.proofs.lang.catalog.Validity.{not_false}
 pub use Rattle.sdd_script.specs.All.{AreDistinct, FitsAssign, FitsTxn, HoldsValues, IsFrom1To, IsLink, IsSite, IsValid, IsValidEvent, IsValidRow, IsValidTxn, IsValue, Value, eras, extended, retired, submitted_by, tail_of, whole}
 pub use Rattle.sdd_script.specs.declared.workload.Workload.{Workload}
 pub use Rattle.sdd_world.proofs.Results.{of_ok}
-pub use Rattle.sdd_world.proofs.Turning.{t_site as within}
 pub use Rattle.sdd_world.specs.AtSites.{standing_at}
 pub use Rattle.sdd_world.specs.Beginnings.{AllBegin, BeginsD, IsBegun, There}
 pub use Rattle.sdd_world.specs.Copies.{rows_left, table_of, tables_at, tables_of}

@@ -1,6 +1,7 @@
 -- The events of a valid workload are allowed.
-use Rattle.sdd_run.proofs.All.{All, All-head, All-tail, AreAllowed, Catalogue, ClassList, D, Deliver, Down, Era, Event, Input, IsGood, IsLink, IsPossible, IsSite, IsValidEvent, List, Lose, Redeclare, Repeat, Resend, Settle, Site, Some, T, Tick, U, Up, [], ap, append_assoc, are_linked, arith, count_join, drop, era_of_list, false, get_or, is_link, is_site, length, lists_after, map, redeclares_in, refl, slice_get, subst, suc, sym, takes_rounds, true, with_event, within, zero, ℕ, ◌&&◌, ◌++◌, ◌-◌, ◌<◌, ◌∙◌, ◌∷◌, ◌≡◌}
+use Rattle.sdd_run.proofs.All.{All, All-head, All-tail, AreAllowed, Catalogue, ClassList, D, Deliver, Down, Era, Event, Input, IsGood, IsLink, IsPossible, IsSite, IsValidEvent, List, Lose, Redeclare, Repeat, Resend, Settle, Site, Some, T, Tick, U, Up, [], ap, append_assoc, are_linked, arith, count_join, drop, era_of_list, false, get_or, is_link, is_site, length, lists_after, map, redeclares_in, refl, slice_get, subst, suc, sym, takes_rounds, true, with_event, zero, ℕ, ◌&&◌, ◌++◌, ◌-◌, ◌<◌, ◌∙◌, ◌∷◌, ◌≡◌}
 use Rattle.sdd_obligations.specs.All.{Submit}
+use Rattle.sdd_run.proofs.Modules.{module_of, numbered}
 
 member : {A : Type 0} (xs : List A) (i : ℕ) → i < length xs → (x : A) × (slice_get xs i ≡ Some x)
 member [] i l = absurd (omega arith)
@@ -9,8 +10,8 @@ member (x ∷ xs) (suc i) l = member xs i (omega arith)
 
 site_is : (cat : Catalogue) (at : Site) → IsSite cat at → is_site cat.tms cat.dms at ≡ true
 site_is cat U h = refl
-site_is cat (T t) h = within t.0 cat.tms h.0 h.1
-site_is cat (D d) h = within d.0 cat.dms h.0 h.1
+site_is cat (T t) h = numbered t.0 cat.tms h.0 h.1
+site_is cat (D d) h = numbered d.0 cat.dms h.0 h.1
 
 link_is : (cat : Catalogue) (a b : Site) → IsLink cat a b → is_link cat.tms cat.dms a b ≡ true
 link_is cat a b h = ap (λ x. x && (is_site cat.tms cat.dms b && are_linked a b)) (site_is cat a h.0) ∙ ap (λ x. x && are_linked a b) (site_is cat b h.1) ∙ h.2
@@ -22,9 +23,9 @@ possible g (Deliver a b k) h s = (link_is g.catalogue a b h.0, h.1.0)
 possible g (Lose a b k) h s = (link_is g.catalogue a b h.0, h.1.0)
 possible g (Repeat a b k) h s = (link_is g.catalogue a b h.0, h.1.0)
 possible g (Resend a b) h s = link_is g.catalogue a b h
-possible g (Tick t n) h s = (within t.0 g.catalogue.tms h.0.0 h.0.1, h.1.1)
-possible g (Down d) h s = within d.0 g.catalogue.dms h.0 h.1
-possible g (Up d) h s = within d.0 g.catalogue.dms h.0 h.1
+possible g (Tick t n) h s = (numbered t.0 g.catalogue.tms h.0.0 h.0.1, h.1.1)
+possible g (Down at) h s = module_of g at h
+possible g (Up at) h s = module_of g at h
 possible g _ h s = absurd cc
 
 -- what is given is good with each part of the schedule that it begins with
@@ -129,7 +130,7 @@ module _ (all : List Event) where
       (allowed es (with_event g (Tick t n)) lists)
   allowed (Settle ∷ es) g lists =
       other_event g Settle es lists (record { no_redeclare = λ is. cc; none_taken = refl; none_counted = refl }) (allowed es (with_event g Settle) lists)
-  allowed (Down d ∷ es) g lists =
-      other_event g (Down d) es lists (record { no_redeclare = λ is. cc; none_taken = refl; none_counted = refl }) (allowed es (with_event g (Down d)) lists)
-  allowed (Up d ∷ es) g lists =
-      other_event g (Up d) es lists (record { no_redeclare = λ is. cc; none_taken = refl; none_counted = refl }) (allowed es (with_event g (Up d)) lists)
+  allowed (Down at ∷ es) g lists =
+      other_event g (Down at) es lists (record { no_redeclare = λ is. cc; none_taken = refl; none_counted = refl }) (allowed es (with_event g (Down at)) lists)
+  allowed (Up at ∷ es) g lists =
+      other_event g (Up at) es lists (record { no_redeclare = λ is. cc; none_taken = refl; none_counted = refl }) (allowed es (with_event g (Up at)) lists)

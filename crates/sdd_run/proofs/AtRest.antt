@@ -1,6 +1,7 @@
 -- Where a settle or a redeclare is the last of the events, the links are quiet at the end.
-use Rattle.sdd_run.proofs.All.{Bool, Event, Input, IsAtRest, IsLawful, List, Log, Mark, None, OnlyMarksAreDue, Redeclare, Redeclares, Settle, Some, Up, [], after_mark, all_links, ap, arith, at_redeclare, calls_of, complete_parts, false, first_none, from_event, hand_due, hand_on, inl, inr, left, mark_from, mark_of, next, next_is_of_events, no_redeclare, none_any_base, none_left, quiet, quiet_at_last, refl, same_part, site_due, subst, sym, tail_of, true, with_event, ℕ, ◌++◌, ◌∙◌, ◌∷◌, ◌≡◌, ◌⊎◌}
-use Rattle.sdd_obligations.specs.All.{Entry}
+use Rattle.sdd_run.proofs.All.{Bool, Event, Input, IsAtRest, IsLawful, List, Log, Mark, None, OnlyMarksAreDue, Redeclare, Redeclares, Settle, Some, Up, [], after_mark, all_links, ap, arith, at_redeclare, calls_of, complete_parts, false, first_none, from_event, hand_due, hand_on, inl, inr, left, mark_from, mark_of, next, next_is_of_events, no_redeclare, none_any_base, none_left, quiet, quiet_at_last, refl, same_part, site_due, subst, suc, sym, tail_of, true, with_event, ℕ, ◌++◌, ◌∙◌, ◌∷◌, ◌≡◌, ◌⊎◌}
+use Rattle.sdd_obligations.proofs.logs.Steps.{none_does, none_more}
+use Rattle.sdd_obligations.specs.All.{Entry, base_of, does_at, local_of, next_at, nth_era, redeclares, sites}
 use Rattle.sdd_obligations.specs.site_module.SiteLog as site
 
 -- whether the last of the events is a redeclare, where it is given what holds of none
@@ -54,7 +55,12 @@ list_taken g log t s h p = grind (arith, list_on)
 -- after that nothing is due
 
 none_at_site : (g : Input) (t : ℕ) (log : Log) → site_due g log ≡ None → site_due g (Redeclares t ∷ log) ≡ None
-none_at_site g t log = grind (arith, first_none, no_redeclare, none_any_base)
+none_at_site g t log =
+    let more : Log = Redeclares t ∷ log in
+    first_none (λ at. does_at at (next_at g log at)) (λ at. does_at at (next_at g more at)) (sites g.catalogue.tms g.catalogue.dms)
+    (λ at e. ap (does_at at) (none_more g log more at (λ part. part)
+    (λ none. no_redeclare g at (base_of g more) (nth_era g (suc (redeclares log))) t (local_of g at log)
+    (none_any_base g at (base_of g log) (base_of g more) (local_of g at log) none)) (none_does at (next_at g log at) e)))
 
 none_to_hand : (g : Input) (t : ℕ) (log : Log) → hand_due g log ≡ None → hand_due g (Redeclares t ∷ log) ≡ None
 none_to_hand g t log = first_none (hand_on log) (hand_on (Redeclares t ∷ log)) (all_links g) (λ l e. (grind (arith, same_part)) ∙ e)

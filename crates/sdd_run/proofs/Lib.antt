@@ -22,6 +22,7 @@ pub mod Once
 pub mod Ordered
 pub mod Reported
 pub mod WithRepliesOfOrder
+pub mod Modules
 pub mod NonePending
 pub mod Settled
 pub mod OneReport

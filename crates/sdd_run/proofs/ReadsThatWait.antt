@@ -1,5 +1,5 @@
 -- Where the READ of an active attempt waits, and for what: what is found by its class and timestamp is the attempt's own.
-use Rattle.sdd_run.proofs.All.{AllWithin, Bool, ClassNo, ClassView, Cond, D, Input, IsClass, IsFirstUnmet, IsModule, IsPermitted, IsStuck, List, Log, Msg, None, Option, Read, ReadWaits, Setting, Some, Ts, TxnNo, Use, View, Waiting, [], act_within, active, ap, arith, class_in_view, class_no, cond, conds_of, dm_no, eqb-true, false, find, has_passed_at, head, head_put, head_stuck, home, if◌then◌else◌, is_met, length, list_all, local_of, none_at_data, not, of_attempt, option_map, passed, pipe, read_of, refl, same_number, setting_of, site_due, subst, sym, time_at, true, txn_no, unmet, view_of, wait_at, wait_for, waiting_at, waits, ℕ, ◌==◌, ◌∙◌, ◌∷◌, ◌≡◌, ◌≤◌}
+use Rattle.sdd_run.proofs.All.{AllWithin, Bool, ClassNo, ClassView, Cond, D, Input, IsClass, IsFirstUnmet, IsLawful, IsModule, IsPermitted, IsStuck, List, Log, Msg, None, Option, Read, ReadWaits, Setting, Some, Ts, TxnNo, Use, View, Waiting, [], act_within, active, ap, arith, class_in_view, class_no, cond, conds_of, dm_no, eqb-true, false, find, has_passed_at, head, head_put, head_stuck, home, if◌then◌else◌, is_met, length, list_all, local_of, none_at_data, not, of_attempt, option_map, passed, pipe, read_of, refl, same_number, setting_of, site_due, subst, sym, time_at, true, txn_no, unmet, view_of, wait_at, wait_for, waiting_at, waits, ℕ, ◌==◌, ◌∙◌, ◌∷◌, ◌≡◌, ◌≤◌}
 use Rattle.sdd_obligations.specs.All.{Attempt}
 use Rattle.sdd_progress.specs.Quiet.{at_home, at_module}
 
@@ -163,12 +163,12 @@ module _ (g : Input) (log : Log) (permitted : IsPermitted g log) (c : ℕ) (a : 
       }
 
   -- a READ of it that waits is found, where nothing is due: else it would be answered
-  pub waits_not : (d : ℕ) (conds : List Cond) → IsClass g.catalogue c → IsModule g.catalogue d → site_due g log ≡ None
+  pub waits_not : (d : ℕ) (conds : List Cond) → IsClass g.catalogue c → IsModule g.catalogue d → IsLawful g log → site_due g log ≡ None
       → wait_at g log c a.ts d ≡ None → ReadWaits g log c a d conds → ⊥
-  waits_not d conds class module_is idle none r =
+  waits_not d conds class module_is lawful idle none r =
       let s : Setting = setting_of g (D (dm_no d)) in
       let l = at_module g d log in
-      let stuck : IsStuck s l c (head (pipe c l)) = head_stuck s l c (omega (arith, class)) (none_at_data g log (dm_no d) module_is.0 module_is.1 idle) in
+      let stuck : IsStuck s l c (head (pipe c l)) = head_stuck s l c (omega (arith, class)) (none_at_data g log (dm_no d) module_is.0 module_is.1 lawful idle) in
       let lacks : list_all (is_met (view_of s l)) conds ≡ false = (subst (IsStuck s l c) r.head_is stuck).1 in
       let x = some_unmet (is_met (view_of s l)) conds lacks in
       let asked : waiting_at c a.ts l ≡ Some conds =

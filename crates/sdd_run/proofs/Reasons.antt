@@ -1,5 +1,5 @@
 -- What is listed as pending was submitted, isn't committed, and waits for what is said of it.
-use Rattle.sdd_run.proofs.All.{Contains, Contains-from_filter_map, D, FitsInput, Input, IsPermitted, IsTruePending, IsTrueReason, IsUnderway, List, Log, None, Option, Pending, Rec, Some, Standing, Submit, TellsPending, TxnNo, Waiting, WasFirst, Why, [], any_commit, ap, arith, commits, cons_option, dm_no, false, filter_map, history, if◌then◌else◌, list_any, not_both, option_map, pending_as, pending_in, pending_of, refl, same_number, site_due, slice_get, slice_get-get_or, status_at, submitted_at, subst, suc, sym, true, under_way, wait_at, waits_of, why_of, why_pending, zero, ℕ, ◌+◌, ◌<◌, ◌∙◌, ◌∷◌, ◌≡◌}
+use Rattle.sdd_run.proofs.All.{Contains, Contains-from_filter_map, D, FitsInput, Input, IsLawful, IsPermitted, IsTruePending, IsTrueReason, IsUnderway, List, Log, None, Option, Pending, Rec, Some, Standing, Submit, TellsPending, TxnNo, Waiting, WasFirst, Why, [], any_commit, ap, arith, commits, cons_option, dm_no, false, filter_map, history, if◌then◌else◌, list_any, not_both, option_map, pending_as, pending_in, pending_of, refl, same_number, site_due, slice_get, slice_get-get_or, status_at, submitted_at, subst, suc, sym, true, under_way, wait_at, waits_of, why_of, why_pending, zero, ℕ, ◌+◌, ◌<◌, ◌∙◌, ◌∷◌, ◌≡◌}
 use Rattle.sdd_obligations.specs.All.{Attempt}
 use Rattle.sdd_obligations.specs.attempt.declared.standing.Standing.TheVariants as standings
 use Rattle.sdd_report.specs.declared.pending.Why.TheVariants as reasons
@@ -57,7 +57,8 @@ made_both f (x ∷ xs) i j y z l e g =
       | Some w ↦ λ p q r. two_of f x xs w y z i j p l (λ k m n s t. made_both f xs k m y z n s t) q r
     ] refl e g
 
-module _ (g : Input) (log : Log) (permitted : IsPermitted g log) (good : FitsInput g) (idle : site_due g log ≡ None) where
+module _ (g : Input) (log : Log) (permitted : IsPermitted g log) (good : FitsInput g) (lawful : IsLawful g log)
+    (idle : site_due g log ≡ None) where
   -- an attempt that is under way waits where its READ waits at the lowest module, or else lacks the answer of the lowest
   underway_true : (n c d : ℕ) (a : Attempt) → IsUnderway g log n c a → LacksAnswer g log c a d
       → IsTrueReason g log n (under_way (D (dm_no d)) (waits_of g log c a.ts))
@@ -74,7 +75,7 @@ module _ (g : Input) (log : Log) (permitted : IsPermitted g log) (good : FitsInp
             lowest = lacks.none_lower;
             no_read_waits = λ k conds l m r.
                 let to : k < 1 + g.catalogue.dms = omega (arith, m) in
-                waits_not g log permitted c a u.active_is k conds u.class_is (l, omega (arith, m)) idle (none_waits f 1 g.catalogue.dms e k l to) r;
+                waits_not g log permitted c a u.active_is k conds u.class_is (l, omega (arith, m)) lawful idle (none_waits f 1 g.catalogue.dms e k l to) r;
           },
         )
         | w ∷ ws ↦ λ e.
@@ -96,7 +97,7 @@ module _ (g : Input) (log : Log) (permitted : IsPermitted g log) (good : FitsInp
                 class_is = ap (λ (x : Waiting). x.class) (sym is);
                 time_is = ap (λ (x : Waiting). x.time) (sym is);
                 lowest = λ k conds l m r.
-                    waits_not g log permitted c a u.active_is k conds u.class_is (l, omega (arith, m, high)) idle (i.none_lower k l m) r;
+                    waits_not g log permitted c a u.active_is k conds u.class_is (l, omega (arith, m, high)) lawful idle (i.none_lower k l m) r;
               },
             )
       ] refl
@@ -150,7 +151,7 @@ module _ (g : Input) (log : Log) (permitted : IsPermitted g log) (good : FitsInp
         uncommitted = λ w. not_both (list_any (commits n) (history log))
             (any_commit (history log) (commits n) n (λ event attempt reply changes values rows. same_number n) w) f.uncommitted;
         reason = true_reason n (status_at g log (submitted_at log n) n) one.why
-            (each_is_true g log permitted good idle (submitted_at log n) n) f.reason;
+            (each_is_true g log permitted good lawful idle (submitted_at log n) n) f.reason;
       }
 
   in_order : (i j : ℕ) (one two : Pending) → i < j → slice_get (pending_of g log) i ≡ Some one

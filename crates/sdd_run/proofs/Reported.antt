@@ -65,7 +65,8 @@ reported cat tables work log sound valid tabled the_log text is =
       low_clocks = low_clocks cat tables work sound valid tabled log the_log.lawful;
       nothing_lost = nothing_lost cat tables work sound valid tabled log the_log fine along starting.one_submit;
       reasons = tells_pending (input_of cat tables work) log (permitted cat tables work sound valid tabled log the_log)
-          (fits_given cat tables work sound valid work.events) (none_due (input_of cat tables work) log (over_at_end (input_of cat tables work) log the_log));
+          (fits_given cat tables work sound valid work.events) the_log.lawful
+          (none_due (input_of cat tables work) log (over_at_end (input_of cat tables work) log the_log));
       quiet = quiet_behind cat tables work sound valid tabled log the_log;
       settled = settled cat tables work sound valid tabled log the_log fine along;
       settled_before = settled_before cat tables work sound valid tabled log the_log;

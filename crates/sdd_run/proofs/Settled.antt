@@ -1,4 +1,4 @@
--- A run that a settle or a redeclare ends leaves nothing undone, where no data module is down at its end.
+-- A run that a settle or a redeclare ends leaves nothing undone, where no module is down at its end.
 use Rattle.sdd_run.proofs.All.{AllCommitted, AreAllApplied, AreTables, Attempt, Catalogue, Commit, Committed, Contains, Contains-from_filter, Contains-from_flat_map, Contains-from_map, CopyTable, D, EndsAtRest, EndsQuiet, Entry, HasCommit, HasSoundLists, History, Input, IsAtEnd, IsAttempt, IsCommitted, IsLawful, IsListed, IsOrderable, IsRecordAt, IsSerial, IsSettled, IsSoundCatalogue, IsSubmitted, IsTheLog, IsValid, List, Log, LosesNothing, None, NoneIsDown, Rests, SubmitGiven, TellsAllCommitted, TxnNo, WasCommitted, Workload, ap, applied_at_copies, arith, dated, dm_no, has_copy, history, input_of, lawful_numbered, lawful_permitted, length, local_of, next, numbers_to, order_of, redeclares, report_of, setting_of, settled_is_committed, settled_is_finished, settled_is_quiet, subst, sym, table_of, tables_at, tables_of, times_in, txn_no, up_at_redeclares, whole_in, with_event, ℕ, ◌++◌, ◌≡◌, ◌⊎◌}
 use Rattle.sdd_progress.proofs.Committed.{all_committed as all_committed_of}
 use Rattle.sdd_progress.proofs.Finished.{finished}
@@ -13,6 +13,7 @@ use Rattle.sdd_progress.specs.Premises.{IsIdleAtRedeclares}
 use Rattle.sdd_progress.specs.Quiet.{IsStill}
 use Rattle.sdd_run.proofs.AtRest.{quiet_at_rest}
 use Rattle.sdd_run.proofs.Goods.{few_ticks}
+use Rattle.sdd_run.proofs.Modules.{all_up}
 use Rattle.sdd_run.proofs.RunOf.{lawful_lists, lists, submit_given, up}
 use Rattle.sdd_run.proofs.Timely.{timely}
 use Rattle.sdd_run.proofs.Whole.{events_valid}
@@ -48,7 +49,12 @@ module _ (cat : Catalogue) (tables : List (List Entry)) (work : Workload) (sound
   current_era = lists cat tables work sound valid tabled log the_log
 
   at_end : NoneIsDown (whole_in cat work) log → IsAtEnd (input_of cat tables work) log
-  at_end are_up = record { lawful = the_log.lawful; complete = the_log.complete; up_before = up cat tables work sound valid tabled log the_log; up = are_up }
+  at_end are_up = record {
+    lawful = the_log.lawful;
+    complete = the_log.complete;
+    up_before = up cat tables work sound valid tabled log the_log;
+    up = all_up (input_of cat tables work) log are_up;
+  }
 
   is_settled : EndsQuiet (input_of cat tables work) log → NoneIsDown (whole_in cat work) log → IsSettled (input_of cat tables work) log
   is_settled links are_up = record { at_end = at_end are_up; links = links }
@@ -73,7 +79,7 @@ module _ (cat : Catalogue) (tables : List (List Entry)) (work : Workload) (sound
       let their = lawful_lists cat tables work sound valid tabled before rests.lawful in
       let were_up = up_at_redeclares g before (few_ticks (whole_in cat work) (length work.txns) work.events (events_valid cat work valid))
       rests.lawful (timely cat tables work valid tabled) in
-      let q = resting_is_quiet g before submits.once rests links are_up in
+      let q = resting_is_quiet g before submits.once rests links (all_up g before are_up) in
       let last = their (redeclares before) (omega arith) in
       let idle = is_idle g before q last (idle_at_redeclares g before submits.once rests.lawful their were_up) in
       all_committed_of g before q.permitted their (lawful_numbered g before submits rests.lawful) (finished g before q last.fits.sound idle)

@@ -1,6 +1,6 @@
 -- Between calls, where nothing is due: where each transaction stands at its site, and what it waits for there. An attempt lacks
 -- the answer of a data module; and an undeclared transaction whose attempt hasn't begun lacks the HELD of a T.
-use Rattle.sdd_run.proofs.All.{AtTurn, Bool, Catalogue, D, Exchange, FitsInput, HasNear, Input, IsClass, IsInLine, IsModule, IsNearBy, IsNumberedSite, IsPermitted, IsSoundCatalogue, IsStanding, IsUnderway, Line, List, Log, None, Option, Queued, Site, Some, Standing, T, TmCounts, Turn, U, WaitsForHeld, [], active, active_near, all_served, all_true, and_left, and_right, answered_last, ap, apart, arith, attempt_at, attempt_due, awaited, base_of, both, chain_at, class_at, class_no, contains, counts, counts_at_u, counts_tm, dec_le, differ, dm_no, eq-eqb, eqb-true, false, find, firsts, goes_on, head_of, home, home_fair, home_turns, if_none, if◌then◌else◌, in_filtered, in_line, in_mapped, in_range, inl, inr, is_asking_to_hold, is_none, is_over, is_site, is_unanswered, lacks_answer_of, last_served, list_all, local_of, lowest, map, ne_eqb, near_one, next_at, no_act, no_active, no_sends, none_at, not, not_both, not_false, not_zero, numbers_to, option_map, or_none, or_standing, position, position-Some, positive, queue, queue_at_home, queued_at, refl, run_at, runs_place, same_or_not, send_due, setting_of, site_due, site_of, site_there, slice_get, slice_get-get_or, small_home, sound_whole, spoken, standing_among, standing_at, standing_at_t, standing_at_u, standing_by, standing_of, subst, suc, sym, t_site, tail_of, tm_no, tm_of, to_module, true, turn_at, underway, unsent, waiting, without_served, zero, zero_head, ℕ, ◌&&◌, ◌-◌, ◌<◌, ◌==◌, ◌∙◌, ◌∷◌, ◌≡◌, ◌≤◌, ◌⊎◌}
+use Rattle.sdd_run.proofs.All.{AtTurn, Bool, Catalogue, D, Exchange, FitsInput, HasNear, Input, IsClass, IsInLine, IsLawful, IsModule, IsNearBy, IsNumberedSite, IsPermitted, IsSoundCatalogue, IsStanding, IsUnderway, Line, List, Log, None, Option, Queued, Site, Some, Standing, T, TmCounts, Turn, U, WaitsForHeld, [], active, active_near, all_served, all_true, and_left, and_right, answered_last, ap, apart, arith, attempt_at, attempt_due, awaited, base_of, both, chain_at, class_at, class_no, contains, counts, counts_at_u, counts_tm, dec_le, differ, dm_no, eq-eqb, eqb-true, false, find, firsts, goes_on, head_of, home, home_fair, home_turns, if_none, if◌then◌else◌, in_filtered, in_line, in_mapped, in_range, inl, inr, is_asking_to_hold, is_none, is_over, is_site, is_unanswered, lacks_answer_of, last_served, list_all, local_of, lowest, map, ne_eqb, near_one, next_at, no_act, no_active, no_sends, none_at, not, not_both, not_false, not_zero, numbers_to, option_map, or_none, or_standing, position, position-Some, positive, queue, queue_at_home, queued_at, refl, run_at, runs_place, same_or_not, send_due, setting_of, site_due, site_of, site_there, slice_get, slice_get-get_or, small_home, sound_whole, spoken, standing_among, standing_at, standing_at_t, standing_at_u, standing_by, standing_of, subst, suc, sym, t_site, tail_of, tm_no, tm_of, to_module, true, turn_at, underway, unsent, waiting, without_served, zero, zero_head, ℕ, ◌&&◌, ◌-◌, ◌<◌, ◌==◌, ◌∙◌, ◌∷◌, ◌≡◌, ◌≤◌, ◌⊎◌}
 use Rattle.sdd_obligations.specs.All.{Attempt, IsFrom1To}
 use Rattle.sdd_progress.specs.Quiet.{at_home}
 use Rattle.sdd_obligations.proofs.AtTurn.{IsAtTurn}
@@ -13,6 +13,8 @@ use Rattle.sdd_obligations.specs.umod.Due as um
 use Rattle.sdd_obligations.specs.umod.Standing as u_standing
 use Rattle.sdd_obligations.specs.umod.State as um_states
 use Rattle.sdd_obligations.specs.umod.Views as um_views
+use Rattle.sdd_obligations.proofs.logs.Steps.{none_in}
+use Rattle.sdd_progress.proofs.AttemptsRest.{attempts_rest}
 use Rattle.sdd_run.proofs.Lowest.{first_in, lowest_of}
 
 -- the first item that passes a test is one of the list
@@ -39,37 +41,14 @@ found_or_none {A = A} p (y ∷ xs) =
       ]
     ] refl
 
--- nothing is due at a site
+-- nothing is due at U
 
 module _ (g : Input) (log : Log) (idle : site_due g log ≡ None) where
-  none_next : (at : Site) → is_site g.catalogue.tms g.catalogue.dms at ≡ true → next_at g log at ≡ None
-  none_next at e = grind (arith, site_there, no_act, none_at)
-
-  -- nor of the active attempt of a class
+  none_next : next_at g log U ≡ None
+  none_next = grind (arith, site_there, no_act, none_at)
 
   none_started : um.start_due g.catalogue (um_views.view_of (setting_of g U) (local_of g U log)) ≡ None
-  none_started = grind (arith, none_next, or_none)
-
-  none_at_t : (t j c : ℕ) → 1 ≤ t → t ≤ g.catalogue.tms → slice_get (tm_views.runs (setting_of g (T (tm_no t)))) j ≡ Some c
-      → attempt_due g.catalogue (base_of g log) c (active (setting_of g (T (tm_no t))) c (local_of g (T (tm_no t)) log)) ≡ None
-  none_at_t t j c l m i =
-      let s = setting_of g (T (tm_no t)) in
-      let lt = local_of g (T (tm_no t)) log in
-      let v = tm_views.view_of s lt in
-      let e : tm.due g.catalogue (base_of g log) v ≡ None = none_next (T (tm_no t)) (t_site g.catalogue t l m) in
-      none_at (tm.exchange_due g.catalogue (base_of g log)) v.classes j (tm_views.class_view s lt c) (or_none _ _ e).0
-      (at_map (tm_views.class_view s lt) (tm_views.runs s) j c i)
-
-  none_of_class : (c : ℕ) → IsSoundCatalogue g.catalogue → IsClass g.catalogue c
-      → attempt_due g.catalogue (base_of g log) c (active (setting_of g (home g.catalogue c)) c (at_home g c log)) ≡ None
-  none_of_class c sound l = elim (same_or_not c 0) [
-    | inl p ↦ subst (λ k. attempt_due g.catalogue (base_of g log) k
-        (active (setting_of g (home g.catalogue k)) k (at_home g k log)) ≡ None) (sym p) (grind (arith, none_next, or_none))
-    | inr p ↦ (let r = run_at g.catalogue c sound p l in
-        let j = runs_place g c r.t (positive c p) l r.number_is in
-        subst (λ x. attempt_due g.catalogue (base_of g log) c (active (setting_of g x) c (local_of g x log)) ≡ None) (sym r.home_is)
-        (none_at_t r.t j.0 c r.from r.to j.1))
-  ]
+  none_started = (or_none _ _ (or_none _ _ (or_none _ _ (none_in g log U refl none_next)).1).1).0
 
 -- an attempt that has nothing to send and isn't over lacks the answer of a data module, which its site has asked
 
@@ -149,13 +128,13 @@ queued_true g log c n qs class are (Some k) e =
       number_is = eqb-true q.0.number n q.2;
     }
 
-module _ (g : Input) (log : Log) (permitted : IsPermitted g log) (good : FitsInput g) (idle : site_due g log ≡ None) where
+module _ (g : Input) (log : Log) (permitted : IsPermitted g log) (good : FitsInput g) (lawful : IsLawful g log) (idle : site_due g log ≡ None) where
   lacks_lowest : (c : ℕ) (a : Attempt) → IsClass g.catalogue c → attempt_at g log c ≡ Some a
       → (d : ℕ) × (lowest a.exchange.lacks ≡ Some d) × LacksAnswer g log c a d
   lacks_lowest c a l e =
       let s = setting_of g (home g.catalogue c) in
       let going = goes_on g log c a permitted good l e in
-      let p = or_none (send_due a.exchange) _ (subst (λ o. attempt_due g.catalogue (base_of g log) c o ≡ None) e (none_of_class g log idle c good.sound l)) in
+      let p = or_none (send_due a.exchange) _ (subst (λ o. attempt_due g.catalogue (base_of g log) c o ≡ None) e (attempts_rest g log c good.sound l lawful idle)) in
       let sent : a.exchange.to_send ≡ [] = no_sends a.exchange.to_send p.0 in
       let low = lowest_of a.exchange.lacks (going.lacks (if_none (is_over a.exchange.phase) _ p.1)) in
       let turns = home_turns g c log permitted (spoken g c log permitted (small_home g.catalogue good.sound c l)) in

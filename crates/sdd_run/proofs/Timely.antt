@@ -1,7 +1,7 @@
--- In a valid workload each redeclare stands where it may: a list is left, and no data module is down.
-use Rattle.sdd_run.proofs.All.{AreTables, AreTimely, Bool, Catalogue, Entry, Event, IsValid, List, Redeclare, Some, Workload, [], ap, arith, at_seam, classes_in, cond, count_by, down_from, false, fold, input_of, length, length-map, redeclares_in, refl, slice_get, subst, sum_by-cons, sym, take, take-append_seam, turned_by, ℕ, ◌+◌, ◌∙◌, ◌∷◌, ◌≡◌, ◌≤◌}
+-- In a valid workload each redeclare stands where it may: a list is left, and no module is down.
+use Rattle.sdd_run.proofs.All.{AreTables, AreTimely, Bool, Catalogue, Entry, Event, IsValid, List, Redeclare, Site, Some, Workload, [], ap, arith, at_seam, classes_in, cond, count_by, down_from, false, fold, input_of, length, length-map, redeclares_in, refl, slice_get, subst, sum_by-cons, sym, take, take-append_seam, turned_by, ℕ, ◌+◌, ◌∙◌, ◌∷◌, ◌≡◌, ◌≤◌}
 use Rattle.sdd_run.proofs.ErasWithTables.{how_many}
-use Rattle.sdd_run.proofs.Whole.{same_dms}
+use Rattle.sdd_run.proofs.Modules.{is_module, module_in}
 use Rattle.sdd_script.specs.Redeclaring as script
 
 -- what a workload's events tell, and what the log's definitions count of them
@@ -11,9 +11,9 @@ counted [] = refl
 counted (e ∷ es) =
     (grind arith) ∙ ap (λ n. cond (script.is_redeclare e) 1 0 + n) (counted es) ∙ sym (sum_by-cons (λ x. cond (script.is_redeclare x) 1 0) e es)
 
-down_alike : (d : ℕ) (b : Bool) (es : List Event) → down_from d b es ≡ fold (λ down e. script.turned_by d e down) b es
-down_alike d b [] = refl
-down_alike d b (e ∷ es) = ap (λ c. down_from d c es) (grind arith) ∙ down_alike d (script.turned_by d e b) es
+down_alike : (at : Site) (b : Bool) (es : List Event) → down_from at b es ≡ fold (λ down e. script.turned_by at e down) b es
+down_alike at b [] = refl
+down_alike at b (e ∷ es) = ap (λ c. down_from at c es) (grind arith) ∙ down_alike at (script.turned_by at e b) es
 
 pub timely : (cat : Catalogue) (tables : List (List Entry)) (work : Workload) → IsValid cat work → AreTables cat work tables
     → AreTimely (input_of cat tables work)
@@ -27,5 +27,6 @@ timely cat tables work valid tabled front rest is =
     let done = counted front in
     record {
       left = omega (arith, few, (ap (λ es. count_by script.is_redeclare es) before), all, lists, done);
-      up = λ d here. down_alike d false front ∙ ap (λ es. script.is_down d es) (sym before) ∙ may.up d (here.0, subst (λ n. d ≤ n) (same_dms cat work) here.1);
+      up = λ at here. down_alike at false front ∙ ap (λ es. script.is_down at es) (sym before)
+          ∙ may.up at (module_in cat work at (is_module (input_of cat tables work) at here));
     }

@@ -143,26 +143,27 @@ pub record IsReportOn (cat : Catalogue) (work : Workload) (text : List ℕ) : Ty
   -- What is listed as pending is listed in the order of submission; each was submitted, isn't committed, and waits for what the text says:
   -- a place in the queue of a class, a class at a data module, or a message of a transaction or data module, never one of U.
   pub reasons : TellsPending (input of_run) of_run.log (report of_run).pending
-  -- Where a settle or a redeclare is the last event, the links are quiet at the end. Where they are, and no data module is
-  -- down then, each transaction that was submitted is committed, so it stands in the order, and none is pending.
+  -- Where a settle or a redeclare is the last event, the links are quiet at the end. Where they are, and no module is down
+  -- then, each transaction that was submitted is committed, so it stands in the order, and none is pending.
   pub quiet : EndsAtRest work.events → EndsQuiet (input of_run) of_run.log
   pub settled : EndsQuiet (input of_run) of_run.log → NoneIsDown (whole_in cat work) of_run.log → TellsAllCommitted (report of_run)
   -- So it is at each moment between two events.
   pub settled_before : AtEachMoment of_run (λ before. Rests (input of_run) before → EndsQuiet (input of_run) before
       → NoneIsDown (whole_in cat work) before → AllCommitted (history before))
-  -- At such a moment, and at the end, an outage of data modules costs no more than what needs them: a transaction of a declared
-  -- class commits unless an attempt of its class needs a module that is down, or an undeclared transaction isn't done; and its
+  -- At such a moment, and at the end, an outage costs no more than what needs the modules that are down: a transaction of a
+  -- declared class commits unless an attempt of its class needs such a module, or an undeclared transaction isn't done; and its
   -- change is applied at a copy unless the copy's module is down, or one that the passing of its class needs.
   pub outage : EndsQuiet (input of_run) of_run.log → CostsNoMore (input of_run) of_run.log
   pub outage_before : AtEachMoment of_run (λ before. Rests (input of_run) before → EndsQuiet (input of_run) before
       → CostsNoMore (input of_run) before)
-  -- Of an undeclared transaction it leaves this undone: one that is pending hangs on a data module that is down, since it lacks
-  -- its answer, since the undeclared one before it isn't applied there, or since an attempt of a declared class needs it that
-  -- has to end first. Meanwhile no attempt is under way of a class whose attempts need nothing that is down.
+  -- Of an undeclared transaction it leaves this undone: one that is pending hangs on a module that is down, since it lacks a
+  -- data module's answer, since its READ waits for a class whose passing needs the module, since the undeclared one before it
+  -- isn't applied there, since a transaction module hasn't said HELD for it, or since an attempt of a declared class needs it
+  -- that has to end first. Meanwhile no attempt is under way of a class whose attempts need nothing that is down.
   pub undeclared : EndsQuiet (input of_run) of_run.log → HoldsUpUndeclared (input of_run) of_run.log
   pub undeclared_before : AtEachMoment of_run (λ before. Rests (input of_run) before → EndsQuiet (input of_run) before
       → HoldsUpUndeclared (input of_run) before)
-  -- Where no data module is down at the end, each copy lists the rows that this database is left with.
+  -- Where no module is down at the end, each copy lists the rows that this database is left with.
   pub left : EndsQuiet (input of_run) of_run.log → NoneIsDown (whole_in cat work) of_run.log
       → (copy : CopyTable) → Contains (report of_run).copies copy
       → copy.rows ≡ rows_left (whole_in cat work) (plain of_run).1 copy.frag.0

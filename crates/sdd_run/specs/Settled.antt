@@ -6,6 +6,7 @@ use Rattle.sdd_obligations.specs.base.Numbers.{class_no, txn_no}
 use Rattle.sdd_obligations.specs.base.declared.event.Event.{Event}
 use Rattle.sdd_obligations.specs.base.declared.event.Event.TheVariants.{Redeclare, Settle, Submit}
 use Rattle.sdd_obligations.specs.base.declared.number.TxnNo.{TxnNo}
+use Rattle.sdd_obligations.specs.base.declared.site.Site.{Site}
 use Rattle.sdd_obligations.specs.catalog.Catalogue.{Catalogue}
 use Rattle.sdd_obligations.specs.history.declared.record.Rec.TheVariants.{Submit as Submission}
 use Rattle.sdd_obligations.specs.laws.Deeds.{IsSubmitted}
@@ -13,11 +14,11 @@ use Rattle.sdd_obligations.specs.logs.Entries.{Input, Log}
 use Rattle.sdd_obligations.specs.logs.Traffic.{all_links, calls_of, is_down}
 use Rattle.sdd_obligations.specs.net.Links.{quiet}
 use Rattle.sdd_obligations.specs.serial_orders.Examples.{crossing}
-use Rattle.sdd_obligations.specs.serial_orders.Numbers.{IsModule}
 use Rattle.sdd_progress.specs.Committed.{AllCommitted}
 use Rattle.sdd_report.specs.Report.{Report}
 use Rattle.sdd_report.specs.declared.pending.Pending.{Pending}
 use Rattle.sdd_report.specs.declared.pending.Why.TheVariants.{Queued}
+use Rattle.sdd_script.specs.Valid.{IsModule}
 use Rattle.sdd_run.specs.ComesBefore.{times_in, times_pending}
 
 -- an event before which rounds go on until the links are quiet: said of the event itself, not of a log
@@ -33,9 +34,9 @@ pub record EndsAtRest (events : List Event) : Type 0 where
   pub is : events ≡ before ++ last ∷ []
   pub at_rest : IsAtRest last
 
--- at the end of the log no data module is down
+-- at the end of the log no module is down
 abbrev pub NoneIsDown : Catalogue → Log → Type 0
-NoneIsDown cat log = (d : ℕ) → IsModule cat d → is_down d log ≡ false
+NoneIsDown cat log = (at : Site) → IsModule cat at → is_down at log ≡ false
 
 -- at the end of the log no packet is in flight, and all is acknowledged; said of the links alone, whatever is due
 abbrev pub EndsQuiet : Input → Log → Type 0

@@ -41,9 +41,10 @@ pub fn law_low_clocks()
 
 /// A law: where nothing is due at any site, a transaction that is under way at its site lacks a message
 /// of a transaction or data module, never of U; and one that is queued there has a place from 1 in a class.
+/// The site may be down.
 pub fn law_standings()
-    ensures { (given : Input) (log : Log) (at : Site) (n : ℕ) → FitsInput given → IsPermitted given log
-        → site_due given log ≡ None
+    ensures { (given : Input) (log : Log) (at : Site) (n : ℕ) → FitsInput given → AreSubmittedOnce given.events
+        → IsLawful given log → site_due given log ≡ None
         → IsStanding given.catalogue (standing_of at (setting_of given at) (local_of given at log) n) }
 {}
 

@@ -21,7 +21,7 @@ module _ (cat : Catalogue) (work : Workload) (text : List ℕ) (sound : IsSoundC
   keeps = starts cat r.of_run.tables work sound valid r.of_run.tables_are r.of_run.log r.of_run.log_is
 
   up : NoneIsDown whole r.of_run.log
-  up d here = none_down (input_of cat r.of_run.tables work) r.of_run.log d (are_up work.events all.none_down) r.of_run.log_is.lawful
+  up at here = none_down (input_of cat r.of_run.tables work) r.of_run.log at (are_up work.events all.none_down) r.of_run.log_is.lawful
 
   links : EndsQuiet (input_of cat r.of_run.tables work) r.of_run.log
   links = quiet_behind cat r.of_run.tables work sound valid r.of_run.tables_are r.of_run.log r.of_run.log_is all.ends

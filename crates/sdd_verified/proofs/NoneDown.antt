@@ -1,5 +1,6 @@
--- Where no event takes a data module down, none is down at any time.
-use Rattle.sdd_verified.proofs.All.{Bool, Call, Deliver, Down, Event, Input, IsLawful, List, Log, Lose, Mark, Msg, None, Redeclares, Repeat, Resend, Round, Settle, Site, Some, Submit, Tick, Up, [], after_mark, all_links, calls_of, cond, cons_option, false, filter_map, flat_map, from_event, if◌then◌else◌, in_flight, is_down, left, link, list_any, mark_from, mark_of, neither_left, neither_right, next_is_of_events, quiet, refl, replicate, resends_now, round, round_from, subst, suc, tail_of, takes_down, true, turned_by, zero, ℕ, ◌++◌, ◌==◌, ◌∷◌, ◌≡◌}
+-- Where no event takes a module down, none is down at any time.
+use Rattle.sdd_verified.proofs.All.{Bool, Call, Deliver, Down, Event, Input, IsLawful, List, Log, Lose, Mark, Msg, None, Redeclares, Repeat, Resend, Round, Settle, Site, Some, Submit, Tick, Up, [], after_mark, all_links, calls_of, cond, cons_option, false, filter_map, flat_map, from_event, if◌then◌else◌, in_flight, is_down, left, link, list_any, mark_from, mark_of, neither_left, neither_right, next_is_of_events, quiet, refl, replicate, resends_now, round, round_from, subst, suc, tail_of, takes_down, true, turned_by, zero, ℕ, ◌++◌, ◌∷◌, ◌≡◌}
+use Rattle.sdd_obligations.specs.All.{same_site}
 
 -- events of which none takes a module down
 abbrev AreUp : List Event → Type 0
@@ -83,14 +84,14 @@ left_up g (Round es ∷ log) u h =
     record { events = (left_up g log u h.1).events; of_round = begun_up g log es (left g.events log) (next_is_of_events g log (Round es) refl h.0) }
 left_up g (_ ∷ log) u h = left_up g log u h.1
 
-stays_up : (d : ℕ) (e : Event) (b : Bool) → takes_down e ≡ false → b ≡ false → turned_by d e b ≡ false
-stays_up d (Down m) b u h = cc
-stays_up d (Up m) b u h = elim (m.0 == d) as (λ x. (if x then false else b) ≡ false) [ true ↦ refl | false ↦ h ]
-stays_up d _ b u h = h
+stays_up : (at : Site) (e : Event) (b : Bool) → takes_down e ≡ false → b ≡ false → turned_by at e b ≡ false
+stays_up at (Down m) b u h = cc
+stays_up at (Up m) b u h = elim (same_site m at) as (λ x. (if x then false else b) ≡ false) [ true ↦ refl | false ↦ h ]
+stays_up at _ b u h = h
 
-pub none_down : (g : Input) (log : Log) (d : ℕ) → AreUp g.events → IsLawful g log → is_down d log ≡ false
-none_down g [] d u h = refl
-none_down g (Mark e ∷ log) d u h =
-    stays_up d e (is_down d log) (mark_of_up g log (left g.events log) e (next_is_of_events g log (Mark e) refl h.0) (left_up g log u h.1))
-    (none_down g log d u h.1)
-none_down g (_ ∷ log) d u h = none_down g log d u h.1
+pub none_down : (g : Input) (log : Log) (at : Site) → AreUp g.events → IsLawful g log → is_down at log ≡ false
+none_down g [] at u h = refl
+none_down g (Mark e ∷ log) at u h =
+    stays_up at e (is_down at log) (mark_of_up g log (left g.events log) e (next_is_of_events g log (Mark e) refl h.0) (left_up g log u h.1))
+    (none_down g log at u h.1)
+none_down g (_ ∷ log) at u h = none_down g log at u h.1

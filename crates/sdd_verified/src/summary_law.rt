@@ -8,7 +8,7 @@ ghost use Rattle.sdd_run.specs.script.Valid.{IsValid};
 ghost use Rattle.sdd_run.specs.script.declared.workload.Workload.{Workload};
 ghost use Rattle.sdd_verified.specs.Summaries.{SettleAll, TellsAllDone};
 
-/// A law: where the events submit each transaction, take no data module down and end with a settle
+/// A law: where the events submit each transaction, take no module down and end with a settle
 /// or a redeclare, the summary of the run counts as many committed as there are transactions.
 pub fn law_all_committed()
     ensures { (catalogue : Catalogue) (work : Workload) (text : List ℕ) → IsSoundCatalogue catalogue → IsValid catalogue work
