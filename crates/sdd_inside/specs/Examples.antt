@@ -121,7 +121,7 @@ one_submitted =
     record (step 1 1 (events.Submit (txn_no 1)) founds.Something) {
       put = (on t1 d1 ((First 1 (messages.Write (time_at 65) (class_no 1) (txn_no 1) ((change 1 1 (Some (whole 1 ∷ whole 1 ∷ [])) ∷ []))) ∷ []))
           ∷ []);
-      sites = ((states.T (record { tm = tm_no 1; clock = 1; on_hold = false; owes_held = false; asks = []; active = [] })) ∷ []);
+      sites = ((states.T (record { tm = tm_no 1; is_down = false; clock = 1; on_hold = false; owes_held = false; asks = []; active = [] })) ∷ []);
     }
 
 pub one_submitted_text
@@ -223,6 +223,7 @@ hold_owed =
       put = (on t1 U ((Ack 1) ∷ []) ∷ []);
       sites = ((states.T (record {
         tm = tm_no 1;
+        is_down = false;
         clock = 1;
         on_hold = true;
         owes_held = true;
@@ -327,6 +328,7 @@ question_open =
       put = (on t1 d2 ((Ack 1) ∷ []) ∷ []);
       sites = ((states.T (record {
         tm = tm_no 1;
+        is_down = false;
         clock = 1;
         on_hold = false;
         owes_held = false;

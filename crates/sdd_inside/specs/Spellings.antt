@@ -137,6 +137,7 @@ abbrev at_t : Phase → SiteState
 at_t phase =
     states.T (record {
       tm = tm_no 2;
+      is_down = false;
       clock = 7;
       on_hold = true;
       owes_held = false;
@@ -161,7 +162,13 @@ pub t_shipping : site (at_t phases.Shipping) ≡ t_members (codes "shipping")
 unfolding digits also
 t_shipping = refl
 
--- a data module that is down, and one whose WRITE two READs hold
+-- modules that are down: one of transactions, which owes an answer, and one of data; and one whose WRITE two READs hold
+pub t_down
+    : site (states.T (record { tm = tm_no 3; is_down = true; clock = 4; on_hold = true; owes_held = true; asks = []; active = [] }))
+    ≡ codes "{\"at\":\"T3\",\"down\":true,\"clock\":4,\"hold\":true,\"owes\":true}"
+unfolding digits also
+t_down = refl
+
 pub d_down : site (states.D (record { dm = dm_no 2; is_down = true; heads = [] })) ≡ codes "{\"at\":\"D2\",\"down\":true}"
 unfolding digits also
 d_down = refl

@@ -60,7 +60,9 @@ abbrev pub standing : Catalogue → List Txn → Site → List ℕ → List ℕ
 standing cat txns site members = object (member (codes "at") (site_json cat txns site)) members
 
 abbrev pub tm_flags : TmState → List ℕ
-tm_flags s = also (codes "clock") (decimal s.clock) ++ (if_true (codes "hold") s.on_hold ++ if_true (codes "owes") s.owes_held)
+tm_flags s =
+    if_true (codes "down") s.is_down
+    ++ (also (codes "clock") (decimal s.clock) ++ (if_true (codes "hold") s.on_hold ++ if_true (codes "owes") s.owes_held))
 
 abbrev pub tm_lists : Catalogue → List Txn → TmState → List ℕ
 tm_lists cat txns s =

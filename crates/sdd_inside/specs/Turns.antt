@@ -100,6 +100,7 @@ eleven =
       sites =
           states.T (record {
             tm = tm_no 2;
+            is_down = false;
             clock = 1;
             on_hold = false;
             owes_held = false;

@@ -120,8 +120,8 @@ fn put_words(out: &mut Vec<u8>, txns: &[Txn], event: Event) -> Result<(), NoMemo
         Event::Tick { tm, n } => put_tick(out, b"tick", Site::T(tm), n),
         Event::Settle => put(out, b"settle"),
         Event::Redeclare => put(out, b"redeclare"),
-        Event::Down(dm) => put_at(out, b"down", Site::D(dm)),
-        Event::Up(dm) => put_at(out, b"up", Site::D(dm)),
+        Event::Down(at) => put_at(out, b"down", at),
+        Event::Up(at) => put_at(out, b"up", at),
     }
 }
 

@@ -38,6 +38,7 @@ pub struct Question {
 #[derive(Drop)]
 pub struct TmState {
     pub tm: TmNo,
+    pub is_down: bool,
     /// The ticks of its clock.
     pub clock: u64,
     /// Whether an undeclared transaction keeps it from starting others.

@@ -106,6 +106,7 @@ impl ToJson for Head {
 fn put_tm_flags(out: &mut Vec<u8>, state: &TmState) -> Result<(), NoMemory>
     ensures { OnOk result (out.new.items ≡ out.old.items ++ tm_flags state.now) }
 {
+    put_if(out, b"down", state.is_down)?;
     put_also(out, b"clock", state.clock)?;
     put_if(out, b"hold", state.on_hold)?;
     put_if(out, b"owes", state.owes_held)

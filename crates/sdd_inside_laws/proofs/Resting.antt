@@ -41,8 +41,8 @@ due_marks_none g (Deliver a b k) log = note_marks_none _
 due_marks_none g (Lose a b k) log = note_marks_none _
 due_marks_none g (Repeat a b k) log = note_marks_none _
 due_marks_none g (Resend a b) log = note_marks_none _
-due_marks_none g (Down d) log = note_marks_none _
-due_marks_none g (Up d) log = note_marks_none _
+due_marks_none g (Down at) log = note_marks_none _
+due_marks_none g (Up at) log = note_marks_none _
 due_marks_none g _ log = tt
 
 mark_marks_none : (g : Input) (log : Log) → MarksNone (mark_due g log)

@@ -1,4 +1,5 @@
 pub mod Reader
 pub mod TextReader
 pub mod WholeRun
+pub mod WorkedDowns
 pub mod WorkedLines

@@ -4,7 +4,6 @@ use Rattle.std.specs.Prelude.{ℕ, suc, ◌≡◌, List, [], ◌∷◌, ◌++◌
 use Rattle.std.specs.Fmt.{digits}
 use Rattle.sdd_log_examples.specs.Classes.{input_of_second_class_list, log_of_second_class_list}
 use Rattle.sdd_log_examples.specs.Dates.{input_of_deleted_and_put, log_of_deleted_and_put}
-use Rattle.sdd_log_examples.specs.Downs.{input_of_down_and_up, input_of_down_twice, log_of_down_and_up, log_of_down_twice}
 use Rattle.sdd_log_examples.specs.Hands.{input_of_two_at_once, log_of_two_at_once}
 use Rattle.sdd_log_examples.specs.Links.{input_of_lost_and_repeated, log_of_lost_and_repeated}
 use Rattle.sdd_log_examples.specs.Passed.{input_of_asked_while_active, log_of_asked_while_active}
@@ -17,21 +16,11 @@ use Rattle.sdd_inside.specs.Examples.{named, txn}
 use Rattle.sdd_inside.specs.Json.{also}
 use Rattle.sdd_inside.specs.Lines.{line}
 use Rattle.sdd_watch.specs.Moments.{at_event}
-use Rattle.sdd_watch.specs.Text.{change, inside_text}
+use Rattle.sdd_watch.specs.Text.{change}
 
 -- the line of the event after so many others, by catalogue and transactions with names
-abbrev line_after : Catalogue → List Txn → Input → Log → ℕ → List ℕ
+abbrev pub line_after : Catalogue → List Txn → Input → Log → ℕ → List ℕ
 line_after cat txns g log before = line cat txns (change g (at_event before log) (at_event (suc before) log))
-
--- a whole text, of a log whose fragment has no name
-pub whole_text
-    : inside_text input_of_down_twice log_of_down_twice
-    ≡ codes "{\"inside\":1,\"tms\":1,\"dms\":1,\"copies\":[{\"at\":\"D1\",\"fragment\":\"\",\"rows\":[]}]}\n"
-    ++ codes "{\"event\":1,\"of\":1,\"do\":\"up D1\",\"nothing\":true}\n"
-    ++ codes "{\"event\":2,\"of\":2,\"do\":\"down D1\",\"sites\":[{\"at\":\"D1\",\"down\":true}]}\n"
-    ++ codes "{\"event\":3,\"of\":3,\"do\":\"down D1\",\"nothing\":true}\n"
-unfolding digits also
-whole_text = refl
 
 -- an undeclared query lets the transaction modules hold, and waits for every class
 
@@ -243,58 +232,6 @@ pub t_ships
     ++ codes "\"clock\":2,\"active\":[{\"class\":\"audit\",\"txn\":\"u#1\",\"time\":129,\"phase\":\"shipping\",\"lacks\":[\"D1\"]}]}]}\n"
 unfolding digits also
 t_ships = refl
-
--- a data module is down while a put comes, and applies it once it is up
-
-abbrev catalogue_of_down_and_up : Catalogue
-catalogue_of_down_and_up = named 1 1 (codes "all" ∷ []) (codes "own" ∷ [])
-
-abbrev txns_of_down_and_up : List Txn
-txns_of_down_and_up = map txn (codes "p" ∷ [])
-
--- a `down` that finds the module up
-pub goes_down
-    : line_after catalogue_of_down_and_up txns_of_down_and_up input_of_down_and_up log_of_down_and_up 1
-    ≡ codes "{\"event\":2,\"of\":2,\"do\":\"down D1\",\"sites\":[{\"at\":\"D1\",\"down\":true}]}\n"
-unfolding digits also
-goes_down = refl
-
--- a message arrives for a module that is down, and isn't handed over
-pub kept_for_it
-    : line_after catalogue_of_down_and_up txns_of_down_and_up input_of_down_and_up log_of_down_and_up 2
-    ≡ codes "{\"event\":3,\"of\":3,\"do\":\"deliver T1 D1 1\",\"took\":1,\"delivered\":1,\"put\":[[\"D1\",\"T1\",[{\"ack\":1}]]]}\n"
-unfolding digits also
-kept_for_it = refl
-
--- an `up` that finds the module down: what was kept is handed over
-pub comes_up
-    : line_after catalogue_of_down_and_up txns_of_down_and_up input_of_down_and_up log_of_down_and_up 4
-    ≡ codes "{\"event\":5,\"of\":5,\"do\":\"up D1\",\"handed\":[[\"T1\",\"D1\",1]],\"pipes\":[{\"at\":\"D1\",\"class\":\"own\",\"in\":[1],\""
-    ++ codes "out\":1,\"passed\":65}],\"rows\":[[\"D1\",\"all\",\"5\",\"5 10\"]],\"sites\":[{\"at\":\"D1\"}]}\n"
-unfolding digits also
-comes_up = refl
-
--- an `up` where it is up and a `down` where it is down find nothing to do
-
-abbrev catalogue_of_down_twice : Catalogue
-catalogue_of_down_twice = named 1 1 (codes "all" ∷ []) (codes "own" ∷ [])
-
-abbrev txns_of_down_twice : List Txn
-txns_of_down_twice = map txn ([])
-
--- an `up` that finds the module up: it found nothing, and no site took part
-pub up_already
-    : line_after catalogue_of_down_twice txns_of_down_twice input_of_down_twice log_of_down_twice 0
-    ≡ codes "{\"event\":1,\"of\":1,\"do\":\"up D1\",\"nothing\":true}\n"
-unfolding digits also
-up_already = refl
-
--- a `down` that finds the module down
-pub down_already
-    : line_after catalogue_of_down_twice txns_of_down_twice input_of_down_twice log_of_down_twice 2
-    ≡ codes "{\"event\":3,\"of\":3,\"do\":\"down D1\",\"nothing\":true}\n"
-unfolding digits also
-down_already = refl
 
 -- a packet is lost, another one repeated and delivered early; both are resent
 

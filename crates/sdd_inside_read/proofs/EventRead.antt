@@ -76,5 +76,5 @@ taking_again txns (Resend a b) small = refl
 taking_again txns (Tick t n) small = refl
 taking_again txns Settle small = refl
 taking_again txns Redeclare small = refl
-taking_again txns (Down d) small = refl
-taking_again txns (Up d) small = refl
+taking_again txns (Down at) small = refl
+taking_again txns (Up at) small = refl

@@ -16,7 +16,7 @@ use Rattle.sdd_inside_read.proofs.Ends.{AllWhole, all_whole_more, alone, before_
 use Rattle.sdd_inside_read.proofs.EventRead.{taking_again}
 use Rattle.sdd_inside_read.proofs.FoundRead.{IsApart, found_joined, found_parts, found_silent, found_whole, round_joined, round_parts, round_silent, round_whole, took_is, whole_row_delta}
 use Rattle.sdd_inside_read.proofs.JsonPass.{whole_member, whole_object}
-use Rattle.sdd_inside_read.proofs.MembersRead.{IsOther, IsSilent, after_silent, before_silent, both_silent, each_again, found, inner_joined, listed, listed_joined, listed_silent, listed_whole, object_items, one, one_joined, one_silent, one_whole, own_list}
+use Rattle.sdd_inside_read.proofs.MembersRead.{IsOther, IsSilent, after_silent, before_silent, both_silent, each_again, inner_joined, listed, listed_joined, listed_silent, listed_whole, object_items, one, one_joined, one_silent, one_whole, own_list}
 use Rattle.sdd_inside_read.proofs.ModulesRead.{pipe_again, queue_again, whole_pipe, whole_queue}
 use Rattle.sdd_inside_read.proofs.NamesPass.{whole_event}
 use Rattle.sdd_inside_read.proofs.Passing.{IsWhole}

@@ -74,10 +74,11 @@ inner_u cat txns s =
 
 inner_flags : (s : TmState) → IsInner (tm_flags s)
 inner_flags s =
-    inner_join (also (codes "clock") (decimal s.clock)) (if_true (codes "hold") s.on_hold ++ if_true (codes "owes") s.owes_held)
-    (inner_number (codes "clock") s.clock refl)
+    let holding = if_true (codes "hold") s.on_hold ++ if_true (codes "owes") s.owes_held in
+    inner_join (if_true (codes "down") s.is_down) (also (codes "clock") (decimal s.clock) ++ holding) (inner_if_true (codes "down") s.is_down refl)
+    (inner_join (also (codes "clock") (decimal s.clock)) holding (inner_number (codes "clock") s.clock refl)
     (inner_join (if_true (codes "hold") s.on_hold) (if_true (codes "owes") s.owes_held) (inner_if_true (codes "hold") s.on_hold refl)
-    (inner_if_true (codes "owes") s.owes_held refl))
+    (inner_if_true (codes "owes") s.owes_held refl)))
 
 inner_t : (cat : Catalogue) (txns : List Txn) (s : TmState) → IsInner (tm_flags s ++ tm_lists cat txns s)
 inner_t cat txns s =

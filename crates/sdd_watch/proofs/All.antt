@@ -48,11 +48,12 @@ pub use Rattle.sdd_obligations.proofs.logs.Grows.{grows, lawful_grows, with_end}
 pub use Rattle.sdd_obligations.proofs.logs.NextMark.{mark_is_next}
 pub use Rattle.sdd_obligations.proofs.logs.Handing.{delivered_puts}
 pub use Rattle.sdd_obligations.proofs.logs.Links.{delivered_deliver, delivered_lose, delivered_repeat, delivered_resend}
-pub use Rattle.sdd_obligations.proofs.logs.Marking.{no_redeclare, none_by_mark, ticked_none}
+pub use Rattle.sdd_obligations.proofs.logs.Marking.{no_redeclare, ticked_none}
 pub use Rattle.sdd_obligations.proofs.logs.NewMarks.{lawful_permitted}
 pub use Rattle.sdd_obligations.proofs.logs.One.{IsBefore, limit_or_complete, one_chain, one_log}
 pub use Rattle.sdd_obligations.proofs.logs.Rounding.{no_events_quiet}
-pub use Rattle.sdd_obligations.proofs.logs.Steps.{none_any_base, none_does as does_none}
+pub use Rattle.sdd_obligations.proofs.logs.Steps.{none_any_base, none_does as does_none, none_more, none_same}
+pub use Rattle.sdd_obligations.proofs.logs.Turning.{part_up}
 pub use Rattle.sdd_obligations.proofs.net.Directions.{link_back}
 pub use Rattle.sdd_obligations.proofs.net.Lists.{All-at, get-append as in_left}
 pub use Rattle.sdd_obligations.proofs.net.Queues.{no_items}
@@ -60,6 +61,7 @@ pub use Rattle.sdd_obligations.proofs.net.SiteLists.{all_links_more, links_no, l
 pub use Rattle.sdd_obligations.proofs.net.Sound.{sound}
 pub use Rattle.sdd_obligations.proofs.serial_orders.Reading.{is_eq_nat, same_pair}
 pub use Rattle.sdd_obligations.proofs.tm.Lists.{of_map as in_mapped}
+pub use Rattle.sdd_obligations.proofs.tm.Queueing.{represents_queues}
 pub use Rattle.sdd_obligations.specs.All.{Ack, Act, Apply, Attempt, Call, Catalogue, Change, Class, ClassNo, ClassState, ClassView, Commit, Cond, D, Deliver, Did, DmNo, Does, Done, Down, Entry, Event, FitsStart, FragNo, Fragment, Hand, History, Input, IsClassHere, IsEraOf, IsGood, IsLawful, IsLinkOf, IsPermitted, IsPossible, IsServedClass, IsSiteOf, IsSoundCatalogue, IsTable, IsTheLog, IsWhole, Kept, Link, Log, Lose, MAX_DMS, MAX_TMS, Mark, Message, Msg, Notes, Null, Packet, Pipe, Puts, Queued, Read, Rec, Records, Redeclare, Redeclared, Redeclares, Repeat, Represent, Resend, Rests, Round, Sends, Setting, Settle, Site, Start, Submit, Submitted, T, TakesRounds, Tick, Ticked, TmNo, Ts, Txn, TxnNo, U, Up, View, Write, after_mark, all_links, all_of, are_linked, arrives, asks, base_of, bound_of, calls_of, class_at, class_for, class_in, class_no, clock, dated, deliver, delivered, dm_no, does_at, given_by, goes_through, greatest_bound, handed, hands_from, has_copy, head, head_of, history, holds, holds_back, home, is_down, is_empty, is_here, is_link, is_met, is_site, left, link, link_of, links, local_of, lose, mark_due, mark_from, mark_of, marks, newly_delivered, next, next_at, next_in, next_mark, note_if, nth_era, numbers_to, or_zero, packet_as, packet_at, pipe, puts, puts_to, quiet, redeclares, rel_no, repeat, resend, round, runs, same_site, sends_of_act, sent, setting_of, site_due, sites, spelled, takes_part as takes_at, time_at, time_of, tm_no, tried, turned, txn_at, txn_no, view_of, waits, with_event, with_packet, with_submit, without_packet}
 pub use Rattle.sdd_obligations.specs.attempt.Lines.{Line, awaited_by, lacked_by, tries_of_first}
 pub use Rattle.sdd_obligations.specs.attempt.Queues.{queue as queue_in_log, txn_of}
@@ -99,6 +101,7 @@ pub use Rattle.sdd_run.proofs.Whole.{rows_start}
 pub use Rattle.sdd_run.proofs.progress.ErasOf.{marks_up as marks_above}
 pub use Rattle.sdd_run.proofs.progress.Handed.{link_there}
 pub use Rattle.sdd_run.proofs.progress.Lists.{none_at}
+pub use Rattle.sdd_run.proofs.progress.NothingDue.{none_at_data}
 pub use Rattle.sdd_run.proofs.progress.Still.{d_site, t_site}
 pub use Rattle.sdd_run.proofs.progress.lawful.Touched.{copy_module}
 pub use Rattle.sdd_run.proofs.world.Carrying.{ends_from, first_allowed, first_one, lists_stay, next_list, no_rounds, with_first}
@@ -115,7 +118,7 @@ pub use Rattle.sdd_run.specs.script.All.{IsValid}
 pub use Rattle.sdd_run.specs.script.declared.workload.Workload.{Workload}
 pub use Rattle.sdd_run.specs.world.Beginnings.{AllBegin, BeginsD, IsBegun}
 pub use Rattle.sdd_run.specs.world.Copies.{tables_of}
-pub use Rattle.sdd_run.specs.world.Modules.{AllRepresent, LivesD}
+pub use Rattle.sdd_run.specs.world.Modules.{AllRepresent, LivesD, LivesT}
 pub use Rattle.sdd_run.specs.world.Pending.{commits}
 pub use Rattle.sdd_run.specs.world.Schedules.{AreAllowed, IsAllowed, lists_after, takes_rounds, with_events}
 pub use Rattle.sdd_run.specs.world.Represents.{Calm, EndsBy, Represents, Rounding, Settling, events_of}
@@ -150,7 +153,7 @@ pub use Rattle.sdd_watch.specs.declared.watched_link.LinkSeen.{LinkSeen}
 pub use Rattle.sdd_watch.specs.declared.watched_link.OnLinks.{OnLinks}
 pub use Rattle.sdd_watch.specs.declared.watched_link.WatchedLink.{WatchedLink}
 pub use Rattle.sdd_watch.specs.declared.watched_pipe.WatchedPipe.{WatchedPipe}
-pub use Rattle.std.proofs.Common.{All, Bool, Err, IfOk, List, MatchOption, None, Ok, OnOk, Option, Result, SFits as FitsSigned, Some, [], add-one, ap, append-nil, append_assoc, arith, cond, drop, drop-cons, drop-drop, drop-set-lt, eq-eqb, eqb-true, false, filter, filter_map, find, flat_map, fold, if◌then◌else◌, inl, inr, is_some, le-leb, le-ltb, length, length-take-le, lt-ltb, map, map-id, max, nat_cmp, nat_le, nat_lt, not, option_map, pos, position, refl, rules, slice_get, slice_index_or as get_or, slice_set, subst, suc, sym, take, take-append-drop, take_all, true, unwrap_or, w64, zero, ℕ, ℤ, ◌&&◌, ◌*◌, ◌++◌, ◌+◌, ◌-◌, ◌/◌, ◌<◌, ◌==◌, ◌^◌, ◌||◌, ◌∙◌, ◌∷◌, ◌≡◌, ◌≢◌, ◌≤◌, ◌⊎◌}
+pub use Rattle.std.proofs.Common.{All, Bool, Err, IfOk, List, MatchOption, None, Ok, OnOk, Option, Result, SFits as FitsSigned, Some, [], add-one, ap, append-nil, append_assoc, arith, cond, drop, drop-cons, drop-drop, drop-set-lt, eq-eqb, eqb-true, false, filter, filter_map, find, flat_map, fold, if◌then◌else◌, inl, inr, is_some, le-leb, le-ltb, leb-true, length, length-take-le, lt-ltb, map, map-id, max, nat_cmp, nat_le, nat_lt, not, option_map, pos, position, refl, rules, slice_get, slice_index_or as get_or, slice_set, subst, suc, sym, take, take-append-drop, take_all, true, unwrap_or, w64, zero, ℕ, ℤ, ◌&&◌, ◌*◌, ◌++◌, ◌+◌, ◌-◌, ◌/◌, ◌<◌, ◌==◌, ◌^◌, ◌||◌, ◌∙◌, ◌∷◌, ◌≡◌, ◌≢◌, ◌≤◌, ◌⊎◌}
 pub use Rattle.std.proofs.Math.Seq.{drop-append_seam, take-append_seam, take-take}
 pub use Rattle.std.proofs.lemmas.Bool.{and_parts, cases_Bool, cases_lt, lt-leb}
 pub use Rattle.std.proofs.lemmas.Int.{to_z-of_z}

@@ -1,5 +1,5 @@
 -- What an event is about to find, and then what it found.
-use Rattle.sdd_watch.proofs.All.{Ack, Bool, Deliver, DmNo, Down, Event, Found, List, Log, Lose, Message, Msg, None, Option, Packet, Repeat, Resend, Site, Some, Taken, Up, [], ap, arrived_by, arrived_of, drop, false, foresee_act, foresee_take, foreseen_by, found_by, is_down, is_empty, is_some, link_of, lost_by, map, not, numbered, option_map, packet_as, packet_at, refl, slice_get, slice_get-map, something_if, suc, sym, taken, taken_at, true, unacked, zero, ℕ, ◌+◌, ◌∙◌, ◌∷◌, ◌≡◌}
+use Rattle.sdd_watch.proofs.All.{Ack, Bool, Deliver, Down, Event, Found, List, Log, Lose, Message, Msg, None, Option, Packet, Repeat, Resend, Site, Some, Taken, Up, [], ap, arrived_by, arrived_of, drop, false, foresee_act, foresee_take, foreseen_by, found_by, is_down, is_empty, is_some, link_of, lost_by, map, not, numbered, option_map, packet_as, packet_at, refl, slice_get, slice_get-map, something_if, suc, sym, taken, taken_at, true, unacked, zero, ℕ, ◌+◌, ◌∙◌, ◌∷◌, ◌≡◌}
 use Rattle.sdd_inside.specs.declared.delta.Found.TheVariants as founds
 use Rattle.sdd_watch.specs.declared.foreseen.Foreseen.TheVariants as foreseens
 
@@ -51,8 +51,8 @@ nothing_found (Lose a b k) old new e =
     nothing_taken o (lost_by o) (λ is. ap lost_by is) e
 nothing_found (Repeat a b k) old new e = nothing_done (is_some (packet_at k (link_of a b old))) e
 nothing_found (Resend a b) old new e = nothing_done (not (is_empty (unacked (link_of a b old).there))) e
-nothing_found (Down d) old new e = nothing_done (not (is_down d.0 old)) e
-nothing_found (Up d) old new e = nothing_done (is_down d.0 old) e
+nothing_found (Down at) old new e = nothing_done (not (is_down at old)) e
+nothing_found (Up at) old new e = nothing_done (is_down at old) e
 nothing_found _ old new e = absurd cc
 
 -- something that is done
@@ -70,8 +70,8 @@ something_found (Deliver a b k) old new e = absurd (something_taken (packet_at k
 something_found (Lose a b k) old new e = absurd (something_taken (packet_at k (link_of a b old)) e)
 something_found (Repeat a b k) old new e = something_done (is_some (packet_at k (link_of a b old))) e
 something_found (Resend a b) old new e = something_done (not (is_empty (unacked (link_of a b old).there))) e
-something_found (Down d) old new e = something_done (not (is_down d.0 old)) e
-something_found (Up d) old new e = something_done (is_down d.0 old) e
+something_found (Down at) old new e = something_done (not (is_down at old)) e
+something_found (Up at) old new e = something_done (is_down at old) e
 something_found _ old new e = refl
 
 -- a packet
@@ -101,18 +101,18 @@ loss_found (Lose a b k) p old new other e =
     taken_is o p founds.Lost (lost_by o) (λ q is. ap lost_by is) e
 loss_found (Repeat a b k) p old new other e = absurd (not_done (is_some (packet_at k (link_of a b old))) p e)
 loss_found (Resend a b) p old new other e = absurd (not_done (not (is_empty (unacked (link_of a b old).there))) p e)
-loss_found (Down d) p old new other e = absurd (not_done (not (is_down d.0 old)) p e)
-loss_found (Up d) p old new other e = absurd (not_done (is_down d.0 old) p e)
+loss_found (Down at) p old new other e = absurd (not_done (not (is_down at old)) p e)
+loss_found (Up at) p old new other e = absurd (not_done (is_down at old) p e)
 loss_found _ p old new other e = absurd cc
 
 -- the other events do what they say
 pub otherwise_done : (e : Event) (log : Log) → ((a b : Site) (k : ℕ) → e ≡ Deliver a b k → ⊥) → ((a b : Site) (k : ℕ) → e ≡ Lose a b k → ⊥)
-    → ((a b : Site) (k : ℕ) → e ≡ Repeat a b k → ⊥) → ((a b : Site) → e ≡ Resend a b → ⊥) → ((d : DmNo) → e ≡ Down d → ⊥) → ((d : DmNo) → e ≡ Up d → ⊥)
+    → ((a b : Site) (k : ℕ) → e ≡ Repeat a b k → ⊥) → ((a b : Site) → e ≡ Resend a b → ⊥) → ((at : Site) → e ≡ Down at → ⊥) → ((at : Site) → e ≡ Up at → ⊥)
     → foreseens.Something ≡ foreseen_by e log
 otherwise_done (Deliver a b k) log l m n o p q = absurd (l a b k refl)
 otherwise_done (Lose a b k) log l m n o p q = absurd (m a b k refl)
 otherwise_done (Repeat a b k) log l m n o p q = absurd (n a b k refl)
 otherwise_done (Resend a b) log l m n o p q = absurd (o a b refl)
-otherwise_done (Down d) log l m n o p q = absurd (p d refl)
-otherwise_done (Up d) log l m n o p q = absurd (q d refl)
+otherwise_done (Down at) log l m n o p q = absurd (p at refl)
+otherwise_done (Up at) log l m n o p q = absurd (q at refl)
 otherwise_done _ log l m n o p q = refl

@@ -49,7 +49,7 @@ no_rounds_begun g (_ ∷ log) l h = no_rounds_begun g log l.1 h
 
 none_from : (g : Input) (log : Log) (r ws : List Event) → mark_from g log false r ws ≡ None → ws ≡ []
 none_from g log r [] h = refl
-none_from g log r (Up d ∷ ws) h = cc
+none_from g log r (Up at ∷ ws) h = cc
 none_from g log r (_ ∷ ws) h = cc
 
 none_of : (g : Input) (log : Log) (s : List Event × List Event) → quiet (all_links g) (calls_of log) ≡ false → mark_of g log s ≡ None

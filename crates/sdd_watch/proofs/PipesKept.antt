@@ -1,5 +1,5 @@
 -- At a data module to which nothing is handed all pipes stay as they are.
-use Rattle.sdd_watch.proofs.All.{ArePipesSeen, Bool, Both, Catalogue, D, Deliver, DmNo, Down, Entry, Event, Input, IsBetween, IsGood, IsMark, IsSiteOf, IsThere, List, Log, Lose, Mark, None, Option, Pipe, PipeMoment, Redeclares, Repeat, Resend, Site, Some, Submit, Submitted, T, Tick, Txn, U, Up, WatchedPipe, [], all_links, ap, append-nil, arith, came, class_for, class_no, cond, dm_no, drop, drop_all, eq-eqb, false, filter, filter_map, handed, if◌then◌else◌, is_changed_pipe, is_empty, is_reached, length, list_any, local_of, map, mark_due, not, nth_era, number_through, pipe, pipe_after, pipe_before, pipes_at_module, redeclares, refl, same_site, setting_of, site_of, site_self, slice_get, source, subst, suc, sym, true, txn_at, watched_pipe, watched_pipes, zero, ℕ, ◌&&◌, ◌++◌, ◌-◌, ◌==◌, ◌||◌, ◌∙◌, ◌∷◌, ◌≡◌}
+use Rattle.sdd_watch.proofs.All.{Act, ArePipesSeen, Bool, Both, Catalogue, D, Deliver, DmNo, Down, Entry, Event, Input, IsBetween, IsGood, IsLawful, IsMark, IsSiteOf, IsThere, List, Log, Lose, Mark, None, Option, Pipe, PipeMoment, Redeclares, Repeat, Resend, Site, Some, Submit, Submitted, T, Tick, Txn, U, Up, WatchedPipe, [], all_links, and_parts, ap, append-nil, arith, base_of, came, class_for, class_no, cond, dm_no, drop, drop_all, eq-eqb, false, filter, filter_map, handed, if◌then◌else◌, is_changed_pipe, is_empty, is_reached, leb-true, length, list_any, local_of, map, mark_due, nat_le, next_at, next_in, none_at_data, not, nth_era, number_through, pipe, pipe_after, pipe_before, pipes_at_module, redeclares, refl, same_site, setting_of, site_due, site_of, site_self, slice_get, source, subst, suc, sym, takes_at, true, txn_at, watched_pipe, watched_pipes, zero, ℕ, ◌&&◌, ◌++◌, ◌-◌, ◌==◌, ◌||◌, ◌∙◌, ◌∷◌, ◌≡◌}
 use Rattle.sdd_watch.proofs.Came.{handed_parts, none_still}
 use Rattle.sdd_watch.proofs.LeftAlone.{left_alone}
 use Rattle.sdd_watch.proofs.LinksLooked.{as_many}
@@ -40,8 +40,8 @@ given_none g (Deliver a b k) old d n e = no_note _ (D d) n e
 given_none g (Lose a b k) old d n e = no_note _ (D d) n e
 given_none g (Repeat a b k) old d n e = no_note _ (D d) n e
 given_none g (Resend a b) old d n e = no_note _ (D d) n e
-given_none g (Down k) old d n e = no_note _ (D d) n e
-given_none g (Up k) old d n e = no_note _ (D d) n e
+given_none g (Down at) old d n e = no_note _ (D d) n e
+given_none g (Up at) old d n e = no_note _ (D d) n e
 given_none g _ old d n e = let no : None ≡ Some (Submitted (D d) n) = e in cc
 
 none_by_mark_at : (g : Input) (mark : Entry) (old : Log) (d : DmNo) (n : ℕ) → IsMark mark → mark_due g (mark ∷ old) ≡ Some (Submitted (D d) n) → ⊥
@@ -55,13 +55,30 @@ mark_at g (Mark e) old d h = refl
 mark_at g (Redeclares t) old d h = refl
 mark_at g _ old d h = absurd h
 
+-- nothing is due there after a mark, also where it brings the module up
+
+if_none : (b : Bool) (o : Option Act) → o ≡ None → (if b then o else None) ≡ None
+if_none true o none = none
+if_none false o none = refl
+
+data_after_mark : (g : Input) (old : Log) (mark : Entry) (d : DmNo) → IsMark mark → IsSiteOf g (D d) → IsLawful g old → site_due g old ≡ None
+    → next_at g (mark ∷ old) (D d) ≡ None
+data_after_mark g old mark d h here lawful none =
+    let there = and_parts (nat_le 1 d.0) (nat_le d.0 g.catalogue.dms) here in
+    let before : next_in g (D d) (base_of g old) (local_of g (D d) old) ≡ None =
+    none_at_data g old d (leb-true 1 d.0 there.0) (leb-true d.0 g.catalogue.dms there.1) lawful none in
+    if_none (takes_at (D d) (mark ∷ old)) (next_in g (D d) (base_of g (mark ∷ old)) (local_of g (D d) (mark ∷ old)))
+    (ap (next_in g (D d) (base_of g (mark ∷ old))) (mark_at g mark old d h) ∙ before)
+
 -- a data module to which nothing is handed
 
 module _ (g : Input) (old new : Log) (good : IsGood g) (b : IsBetween g old new) (d : ℕ) (here : IsSiteOf g (D (dm_no d)))
     (unreached : is_reached g old new (D (dm_no d)) ≡ false) where
   log_kept : local_of g (D (dm_no d)) new ≡ local_of g (D (dm_no d)) old
   log_kept =
-      left_alone g old new (D (dm_no d)) good b here (λ n s. none_by_mark_at g b.mark old (dm_no d) n b.is_mark s)
+      left_alone g old new (D (dm_no d)) good b
+      (data_after_mark g old b.mark (dm_no d) b.is_mark here b.before.lawful b.before.no_site)
+      (λ n s. none_by_mark_at g b.mark old (dm_no d) n b.is_mark s)
       (λ a there. as_handed g old new a (D (dm_no d)) unreached there)
       ∙ mark_at g b.mark old (dm_no d) b.is_mark
 

@@ -10,11 +10,11 @@ use Rattle.sdd_obligations.specs.site_module.SiteLog as site
 -- the pipe in the module
 
 lives_at : (g : Input) (log : Log) (sites : Sites) (dm : DmNo) (d : ℕ) (k : Kept State) → dm ≡ dm_no d → AllRepresent sites g log → IsSiteOf g (D (dm_no d))
-    → ((setting : Setting) (own : site.Log) → Represent sites (D dm) setting own → LivesD k setting own)
+    → ((setting : Setting) (own : site.Log) → Represent sites true (D dm) setting own → LivesD k setting own)
     → LivesD k (setting_of g (D (dm_no d))) (local_of g (D (dm_no d)) log)
 lives_at g log sites dm d k is all here lives =
-    let f : (setting : Setting) (own : site.Log) → Represent sites (D (dm_no d)) setting own → LivesD k setting own =
-    subst (λ (x : DmNo). (setting : Setting) (own : site.Log) → Represent sites (D x) setting own → LivesD k setting own) is lives in
+    let f : (setting : Setting) (own : site.Log) → Represent sites true (D (dm_no d)) setting own → LivesD k setting own =
+    subst (λ (x : DmNo). (setting : Setting) (own : site.Log) → Represent sites true (D x) setting own → LivesD k setting own) is lives in
     f (setting_of g (D (dm_no d))) (local_of g (D (dm_no d)) log) (all (D (dm_no d)) here)
 
 -- what the module keeps of a pipe is of that of the log
@@ -37,7 +37,7 @@ pub record IsRead (g : Input) (new : Log) (d c : ℕ) (unprocessed : ℕ) (passe
 
 pub left_over : (g : Input) (old new : Log) (d c : ℕ) (w : WatchedPipe) (sites : Sites) (k : Kept State) (unprocessed : ℕ)
     → w ≡ watched_pipe g old (d, c) → AllRepresent sites g new → IsSiteOf g (D (dm_no d)) → c ≤ length g.catalogue.classes
-    → ((setting : Setting) (own : site.Log) → Represent sites (D w.dm) setting own → LivesD k setting own)
+    → ((setting : Setting) (own : site.Log) → Represent sites true (D w.dm) setting own → LivesD k setting own)
     → unprocessed ≡ length (pipe_at k.value.pipes w.class.0).unprocessed
     → unprocessed ≡ length (pipe c (local_of g (D (dm_no d)) new)).unprocessed
 left_over g old new d c w sites k unprocessed is all here few lives u =
@@ -47,7 +47,7 @@ left_over g old new d c w sites k unprocessed is all here few lives u =
 
 pub read_pipe : (g : Input) (old new : Log) (d c : ℕ) (w : WatchedPipe) (sites : Sites) (k : Kept State) (unprocessed : ℕ) (passed : Ts)
     → w ≡ watched_pipe g old (d, c) → AllRepresent sites g new → IsSiteOf g (D (dm_no d)) → c ≤ length g.catalogue.classes
-    → ((setting : Setting) (own : site.Log) → Represent sites (D w.dm) setting own → LivesD k setting own)
+    → ((setting : Setting) (own : site.Log) → Represent sites true (D w.dm) setting own → LivesD k setting own)
     → unprocessed ≡ length (pipe_at k.value.pipes w.class.0).unprocessed
     → passed ≡ time_at (or_zero (digest.passed_to (pipe_at k.value.pipes w.class.0))) → IsRead g new d c unprocessed passed
 read_pipe g old new d c w sites k unprocessed passed is all here few lives u p =

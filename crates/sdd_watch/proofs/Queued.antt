@@ -7,12 +7,12 @@ use Rattle.sdd_obligations.specs.tm.State as tm_state
 use Rattle.sdd_obligations.specs.umod.Represents as um
 use Rattle.sdd_obligations.specs.umod.State as um_state
 
-pub queues_reported : (g : Input) (log : Log) (t : TmNo) (k : Kept tm_state.State) → tm.Represents k (setting_of g (T t)) (local_of g (T t) log)
+pub queues_reported : (g : Input) (log : Log) (t : TmNo) (k : Kept tm_state.State) → tm.Queues k (setting_of g (T t)) (local_of g (T t) log)
     → map queue_in k.value.classes ≡ queues_at g log t.0
-queues_reported g log t k represents =
+queues_reported g log t k keeps =
     let s : Setting = setting_of g (T t) in
     let own : site.Log = local_of g (T t) log in
-    ap (λ (v : tm_state.State). map queue_in v.classes) (sym represents.state_is)
+    ap (λ (v : tm_state.State). map queue_in v.classes) (sym keeps.state_is)
     ∙ map-map queue_in (tm_state.class_of s own) (runs s)
 
 queue_reported : (g : Input) (log : Log) (k : Kept um_state.State) → um.Represents k (setting_of g U) (local_of g U log)

@@ -1,7 +1,7 @@
 -- What an event leaves as it was: the links that it doesn't touch, and what is handed to the sites that don't act.
-use Rattle.sdd_watch.proofs.All.{Ack, Across, Along, Around, Bool, D, Deliver, DmNo, Does, Down, Entry, Event, Found, From, Hand, Input, IsBetween, IsGood, IsMark, IsPermitted, IsSiteOf, IsThere, Link, Log, Lose, Mark, Message, Msg, None, Notes, Nowhere, Option, Packet, Reach, Redeclare, Redeclares, Repeat, Resend, Site, Some, Submit, Submitted, T, Tick, U, Up, Way, [], ack_same, allowed_hand, and_parts, ap, arith, arrived_by, calls_of, deliver, delivered, delivered_deliver, delivered_lose, delivered_puts, delivered_repeat, delivered_resend, eq-eqb, eqb-true, false, found_by, given_by, handed, if◌then◌else◌, is_between, is_down, is_touched, last_event, lawful_permitted, length, link, link_of, local_of, lose, mark_due, marks, may_act, newly_delivered, not, note_if, nth_era, packet_at, puts, puts_to, reach_of, reach_of_delivery, redeclares, refl, repeat, resend, same_site, sends_of_act, sent, sent_is, site_is, site_of, site_self, subst, suc, sym, takes_at, true, turned, txn_at, ℕ, ◌&&◌, ◌++◌, ◌==◌, ◌||◌, ◌∙◌, ◌∷◌, ◌≡◌}
+use Rattle.sdd_watch.proofs.All.{Ack, Across, Along, Around, Bool, Deliver, Does, Down, Entry, Event, Found, From, Hand, Input, IsBetween, IsGood, IsMark, IsPermitted, IsSiteOf, IsThere, Link, Log, Lose, Mark, Message, Msg, None, Notes, Nowhere, Option, Packet, Reach, Redeclare, Redeclares, Repeat, Resend, Site, Some, Submit, Submitted, U, Up, Way, [], ack_same, allowed_hand, and_parts, ap, arith, arrived_by, calls_of, deliver, delivered, delivered_deliver, delivered_lose, delivered_puts, delivered_repeat, delivered_resend, false, found_by, given_by, handed, if◌then◌else◌, is_between, is_down, is_touched, last_event, lawful_permitted, length, link, link_of, local_of, lose, mark_due, marks, may_act, newly_delivered, not, note_if, nth_era, packet_at, part_up, puts, puts_to, reach_of, reach_of_delivery, redeclares, refl, repeat, resend, same_site, sends_of_act, sent, sent_is, site_is, site_of, site_self, subst, suc, sym, takes_at, true, turned, txn_at, ℕ, ◌&&◌, ◌++◌, ◌==◌, ◌||◌, ◌∙◌, ◌∷◌, ◌≡◌}
 use Rattle.sdd_watch.proofs.Between.{last_is, same_link}
-use Rattle.sdd_watch.proofs.LeftAlone.{left_alone, unhanded}
+use Rattle.sdd_watch.proofs.LeftAlone.{due_after_mark, left_alone, takes_more, unhanded}
 
 -- truth values
 
@@ -52,33 +52,24 @@ undelivered g _ old new c x h = refl
 
 -- a site to which messages are handed after an event got them before it, but for a module that comes up
 
-takes_on : (d : DmNo) (e : Event) (old : Log) → ((k : DmNo) → e ≡ Up k → (d.0 == k.0) ≡ false) → takes_at (D d) (Mark e ∷ old) ≡ true
-    → takes_at (D d) old ≡ true
-takes_on d (Up k) old h p =
-    elim (k.0 == d.0) as (λ c. (k.0 == d.0) ≡ c → not (if c then false else is_down d.0 old) ≡ true → not (is_down d.0 old) ≡ true) [
-      | true ↦ λ q s. (let same : (d.0 == k.0) ≡ true = eq-eqb d.0 k.0 (sym (eqb-true k.0 d.0 q)) in let no : true ≡ false = sym same ∙ h k refl in cc)
-      | false ↦ λ q s. s
-    ] refl p
-takes_on d (Down k) old h p =
-    elim (k.0 == d.0) as (λ c. not (if c then true else is_down d.0 old) ≡ true → not (is_down d.0 old) ≡ true) [
-      | true ↦ λ s. (let no : false ≡ true = s in cc)
-      | false ↦ λ s. s
-    ] p
-takes_on d _ old h p = p
+up_before_down : (u same down : Bool) → (u || not (if same then true else down)) ≡ true → (u || not down) ≡ true
+up_before_down true same down p = refl
+up_before_down false true down p = absurd (let no : false ≡ true = p in cc)
+up_before_down false false down p = p
+
+takes_on : (x : Site) (e : Event) (old : Log) → ((at : Site) → e ≡ Up at → same_site x at ≡ false) → takes_at x (Mark e ∷ old) ≡ true
+    → takes_at x old ≡ true
+takes_on x (Up at) old h p = part_up x at old (h at refl) p
+takes_on x (Down at) old h p = up_before_down (same_site x U) (same_site at x) (is_down x old) p
+takes_on x _ old h p = p
 
 aside_rejoins : (g : Input) (new : Log) (e : Event) (found : Found) (old : Log) (x : Site) → may_act (reach_of g new e found) x ≡ false
     → takes_at x (Mark e ∷ old) ≡ true → takes_at x old ≡ true
-aside_rejoins g new e found old U h p = refl
-aside_rejoins g new e found old (T t) h p = refl
-aside_rejoins g new e found old (D d) h p =
-    takes_on d e old (λ k is. subst (λ z. may_act (reach_of g new z found) (D d) ≡ false) is h) p
+aside_rejoins g new e found old x h p = takes_on x e old (λ at is. subst (λ z. may_act (reach_of g new z found) x ≡ false) is h) p
 
 untouched_rejoins : (g : Input) (new : Log) (e : Event) (found : Found) (old : Log) (x y : Site) → is_touched (reach_of g new e found) x y ≡ false
     → takes_at y (Mark e ∷ old) ≡ true → takes_at y old ≡ true
-untouched_rejoins g new e found old x U h p = refl
-untouched_rejoins g new e found old x (T t) h p = refl
-untouched_rejoins g new e found old x (D d) h p =
-    takes_on d e old (λ k is. subst (λ z. is_touched (reach_of g new z found) x (D d) ≡ false) is h) p
+untouched_rejoins g new e found old x y h p = takes_on y e old (λ at is. subst (λ z. is_touched (reach_of g new z found) x y ≡ false) is h) p
 
 -- what it gives to a site is for one that acts
 
@@ -98,22 +89,11 @@ given_aside g new (Deliver a b k) found old x n same h e = no_note _ x n e
 given_aside g new (Lose a b k) found old x n same h e = no_note _ x n e
 given_aside g new (Repeat a b k) found old x n same h e = no_note _ x n e
 given_aside g new (Resend a b) found old x n same h e = no_note _ x n e
-given_aside g new (Down d) found old x n same h e = no_note _ x n e
-given_aside g new (Up d) found old x n same h e = no_note _ x n e
+given_aside g new (Down at) found old x n same h e = no_note _ x n e
+given_aside g new (Up at) found old x n same h e = no_note _ x n e
 given_aside g new _ found old x n same h e = let no : None ≡ Some (Submitted x n) = e in cc
 
 -- what comes after the mark
-
-downs_on : (d : ℕ) (more log : Log) → marks more ≡ 0 → is_down d (more ++ log) ≡ is_down d log
-downs_on d [] log z = refl
-downs_on d (Mark e ∷ more) log z = absurd (omega (arith, z))
-downs_on d (Redeclares t ∷ more) log z = absurd (omega (arith, z))
-downs_on d (_ ∷ more) log z = downs_on d more log z
-
-takes_more : (y : Site) (more log : Log) → marks more ≡ 0 → takes_at y (more ++ log) ≡ takes_at y log
-takes_more U more log z = refl
-takes_more (T t) more log z = refl
-takes_more (D d) more log z = ap not (downs_on d.0 more log z)
 
 pub lists_on : (more log : Log) → marks more ≡ 0 → redeclares (more ++ log) ≡ redeclares log
 lists_on [] log z = refl
@@ -163,21 +143,16 @@ undelivered_by_mark g old new (Mark e) c x h t = undelivered g e old new c x t
 undelivered_by_mark g old new (Redeclares k) c x h t = refl
 undelivered_by_mark g old new _ c x h t = absurd h
 
-still_takes : (t : ℕ) (old : Log) (x : Site) → takes_at x (Redeclares t ∷ old) ≡ true → takes_at x old ≡ true
-still_takes t old U p = refl
-still_takes t old (T n) p = refl
-still_takes t old (D d) p = p
-
 aside_by_mark : (g : Input) (old new : Log) (mark : Entry) (x : Site) → IsMark mark → may_act (reach_after g old new (mark ∷ old)) x ≡ false
     → takes_at x (mark ∷ old) ≡ true → takes_at x old ≡ true
 aside_by_mark g old new (Mark e) x h t p = aside_rejoins g new e (found_by e old new) old x t p
-aside_by_mark g old new (Redeclares k) x h t p = still_takes k old x p
+aside_by_mark g old new (Redeclares k) x h t p = p
 aside_by_mark g old new _ x h t p = absurd h
 
 untouched_by_mark : (g : Input) (old new : Log) (mark : Entry) (x y : Site) → IsMark mark → is_touched (reach_after g old new (mark ∷ old)) x y ≡ false
     → takes_at y (mark ∷ old) ≡ true → takes_at y old ≡ true
 untouched_by_mark g old new (Mark e) x y h t p = untouched_rejoins g new e (found_by e old new) old x y t p
-untouched_by_mark g old new (Redeclares k) x y h t p = still_takes k old y p
+untouched_by_mark g old new (Redeclares k) x y h t p = p
 untouched_by_mark g old new _ x y h t p = absurd h
 
 given_by_mark : (g : Input) (old new : Log) (mark : Entry) (x : Site) (n : ℕ) → IsMark mark → redeclares new ≡ redeclares (mark ∷ old)
@@ -227,6 +202,7 @@ module _ (g : Input) (old new : Log) (good : IsGood g) (b : IsBetween g old new)
   pub aside_log : (x : Site) → IsSiteOf g x → may_act (reach_after g old new new) x ≡ false → local_of g x new ≡ local_of g x (b.mark ∷ old)
   aside_log x here t =
       let m = at_mark (λ r. may_act r x ≡ false) t in
-      left_alone g old new x good b here
+      left_alone g old new x good b
+      (due_after_mark g old b.mark x b.is_mark here b.before.no_site (λ p. aside_by_mark g old new b.mark x b.is_mark m p))
       (λ n d. given_by_mark g old new b.mark x n b.is_mark (ap redeclares b.parts ∙ lists_on b.more (b.mark ∷ old) b.no_marks) m d)
       (λ a there. aside_handed a x t)

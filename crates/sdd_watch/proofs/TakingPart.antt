@@ -1,5 +1,5 @@
 -- Which sites take part in an event.
-use Rattle.sdd_watch.proofs.All.{Arrived, Bool, DmNo, Down, Event, Found, Input, List, Log, Redeclare, Site, Submit, Tick, TmNo, TxnNo, U, Up, [], all_links, ap, append-nil, arrived, arrived_on, concerns, cons_option, false, filter, filter_map, found_by, given_to, handed, if◌then◌else◌, is_reached, last_event, list_any, not, refl, same_site, sym, takes_part, true, ℕ, ◌&&◌, ◌++◌, ◌==◌, ◌||◌, ◌∙◌, ◌∷◌, ◌≡◌}
+use Rattle.sdd_watch.proofs.All.{Arrived, Bool, Down, Event, Found, Input, List, Log, Redeclare, Site, Submit, Tick, TmNo, TxnNo, U, Up, [], all_links, ap, append-nil, arrived, arrived_on, concerns, cons_option, false, filter, filter_map, found_by, given_to, handed, if◌then◌else◌, is_reached, last_event, list_any, not, refl, same_site, sym, takes_part, true, ℕ, ◌&&◌, ◌++◌, ◌==◌, ◌||◌, ◌∙◌, ◌∷◌, ◌≡◌}
 use Rattle.sdd_watch.proofs.Came.{arrived_if, still}
 
 abbrev is_to : Site → Arrived → Bool
@@ -36,12 +36,12 @@ takes_otherwise g old new at known b own e found is same not_reached event found
 
 -- no other event is of a site by itself
 pub of_none : (g : Input) (log : Log) (e : Event) (found : Found) (at : Site) → ((n : TxnNo) → e ≡ Submit n → ⊥)
-    → ((t : TmNo) (n : ℕ) → e ≡ Tick t n → ⊥) → ((d : DmNo) → e ≡ Down d → ⊥) → ((d : DmNo) → e ≡ Up d → ⊥) → (e ≡ Redeclare → ⊥)
+    → ((t : TmNo) (n : ℕ) → e ≡ Tick t n → ⊥) → ((here : Site) → e ≡ Down here → ⊥) → ((here : Site) → e ≡ Up here → ⊥) → (e ≡ Redeclare → ⊥)
     → false ≡ concerns g log e found at
 of_none g log (Submit n) found at a b c d r = absurd (a n refl)
 of_none g log (Tick t n) found at a b c d r = absurd (b t n refl)
-of_none g log (Down d) found at a b c k r = absurd (c d refl)
-of_none g log (Up d) found at a b c k r = absurd (k d refl)
+of_none g log (Down here) found at a b c k r = absurd (c here refl)
+of_none g log (Up here) found at a b c k r = absurd (k here refl)
 of_none g log Redeclare found at a b c d r = absurd (r refl)
 of_none g log _ found at a b c d r = refl
 

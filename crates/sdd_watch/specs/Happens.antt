@@ -106,8 +106,8 @@ found_by (Deliver a b k) old new = arrived_by a b (packet_at k (link_of a b old)
 found_by (Lose a b k) old new = lost_by (packet_at k (link_of a b old))
 found_by (Repeat a b k) old new = something_if (is_some (packet_at k (link_of a b old)))
 found_by (Resend a b) old new = something_if (not (is_empty (unacked (link_of a b old).there)))
-found_by (Down d) old new = something_if (not (is_down d.0 old))
-found_by (Up d) old new = something_if (is_down d.0 old)
+found_by (Down at) old new = something_if (not (is_down at old))
+found_by (Up at) old new = something_if (is_down at old)
 found_by _ old new = founds.Something
 
 -- rows
@@ -190,13 +190,13 @@ abbrev pub is_something : Found → Bool
 is_something founds.Nothing = false
 is_something _ = true
 
--- the event itself is of the site: a submission is of the site of its class by the list in force, and a class list that
--- is put in force is of the transaction modules
+-- the event itself is of the site: a submission is of the site of its class by the list in force, also where that is down; a
+-- module that goes down or comes up takes part in that; and a class list that is put in force is of the transaction modules
 abbrev pub concerns : Input → Log → Event → Found → Site → Bool
 concerns g log (Submit n) found at = same_site (class_site (nth_era g (redeclares log)).catalogue (txn_at g n.0)) at
 concerns g log (Tick t n) found at = same_site (T t) at
-concerns g log (Down d) found at = is_something found && same_site (D d) at
-concerns g log (Up d) found at = is_something found && same_site (D d) at
+concerns g log (Down here) found at = is_something found && same_site here at
+concerns g log (Up here) found at = is_something found && same_site here at
 concerns g log Redeclare found (T t) = true
 concerns g log _ found at = false
 

@@ -1,8 +1,8 @@
 -- Which links an event may change: those on which it delivers, loses, repeats or resends, those to a module that comes up,
--- and those from the site that acts.
+-- and those from the site that acts, as a module that comes up may.
 -- For the contracts of the code: not needed to read `IsInsideOf`.
 use Rattle.std.specs.Prelude.{Bool, false, true, ◌&&◌, ◌||◌}
-use Rattle.sdd_obligations.specs.All.{D, Deliver, Event, Input, Log, Lose, Repeat, Resend, Site, Submit, U, Up, nth_era, redeclares, same_site, txn_at}
+use Rattle.sdd_obligations.specs.All.{Deliver, Event, Input, Log, Lose, Repeat, Resend, Site, Submit, U, Up, nth_era, redeclares, same_site, txn_at}
 use Rattle.sdd_obligations.specs.logs.Due.{home_of}
 use Rattle.sdd_inside.specs.declared.delta.Found.{Found}
 use Rattle.sdd_inside.specs.declared.delta.Found.TheVariants as founds
@@ -21,7 +21,7 @@ reach_of g log (Deliver a b k) found = reach_of_delivery a b found
 reach_of g log (Lose a b k) found = Along a b
 reach_of g log (Repeat a b k) found = Along a b
 reach_of g log (Resend a b) found = Along a b
-reach_of g log (Up d) found = Around (D d)
+reach_of g log (Up at) found = Around at
 reach_of g log _ found = Nowhere
 
 -- the site to which an event gives a transaction, and U where it gives none

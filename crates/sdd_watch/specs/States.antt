@@ -64,10 +64,11 @@ reported_question c q = record { class = class_no c; from = q.from; time = time_
 abbrev pub questions_to : List Question → ℕ → List questions.Question
 questions_to qs c = map (reported_question c) (filter (λ q. q.class == c) qs)
 
-abbrev pub reported_tm : Setting → site.Log → ℕ → TmState
-reported_tm s log t =
+abbrev pub reported_tm : Setting → site.Log → ℕ → Bool → TmState
+reported_tm s log t down =
     record {
       tm = tm_no t;
+      is_down = down;
       clock = (clock s.site log).ticks;
       on_hold = nat_lt (holds log).releases (holds log).holds;
       owes_held = nat_lt (holds log).helds (holds log).holds;
@@ -148,8 +149,8 @@ reported_dm s log d down = record { dm = dm_no d; is_down = down; heads = filter
 
 abbrev pub state_of : Input → Log → Site → SiteState
 state_of g log U = states.U (reported_u (setting_of g U) (local_of g U log))
-state_of g log (T t) = states.T (reported_tm (setting_of g (T t)) (local_of g (T t) log) t.0)
-state_of g log (D d) = states.D (reported_dm (setting_of g (D d)) (local_of g (D d) log) d.0 (is_down d.0 log))
+state_of g log (T t) = states.T (reported_tm (setting_of g (T t)) (local_of g (T t) log) t.0 (is_down (T t) log))
+state_of g log (D d) = states.D (reported_dm (setting_of g (D d)) (local_of g (D d) log) d.0 (is_down (D d) log))
 
 -- the data modules that haven't said that they applied what U committed last
 abbrev pub unapplied_of : Input → Log → List DmNo

@@ -84,8 +84,8 @@ foreseen_by (Deliver a b k) log = foresee_take (taken_at (packet_at k (link_of a
 foreseen_by (Lose a b k) log = foresee_take (taken_at (packet_at k (link_of a b log)))
 foreseen_by (Repeat a b k) log = foresee_act (is_some (packet_at k (link_of a b log)))
 foreseen_by (Resend a b) log = foresee_act (not (is_empty (unacked (link_of a b log).there)))
-foreseen_by (Down d) log = foresee_act (not (is_down d.0 log))
-foreseen_by (Up d) log = foresee_act (is_down d.0 log)
+foreseen_by (Down at) log = foresee_act (not (is_down at log))
+foreseen_by (Up at) log = foresee_act (is_down at log)
 foreseen_by _ log = foreseens.Something
 
 -- links

@@ -102,8 +102,8 @@ pub(crate) fn foresee(world: &World<'_>, event: &Event) -> Foreseen
             foresee_act(packet_at(world, *from, *to, *place).is_some())
         }
         Event::Resend { from, to } => foresee_act(!is_acknowledged(world, *from, *to)),
-        Event::Down(dm) => foresee_act(!world.is_down(*dm)),
-        Event::Up(dm) => foresee_act(world.is_down(*dm)),
+        Event::Down(at) => foresee_act(!world.is_down(*at)),
+        Event::Up(at) => foresee_act(world.is_down(*at)),
         _ => Foreseen::Something,
     }
 }

@@ -46,7 +46,7 @@ pub(crate) fn reach_of(world: &World<'_>, event: &Event, found: &Found) -> Reach
         Event::Lose { from, to, .. } => Reach::Along(*from, *to),
         Event::Repeat { from, to, .. } => Reach::Along(*from, *to),
         Event::Resend { from, to } => Reach::Along(*from, *to),
-        Event::Up(dm) => Reach::Around(Site::D(*dm)),
+        Event::Up(at) => Reach::Around(*at),
         _ => Reach::Nowhere,
     }
 }

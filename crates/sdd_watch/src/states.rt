@@ -135,16 +135,22 @@ fn open_questions(alloc: Global, runs: &[ClassRun<'_>]) -> Result<Vec<Question>,
     Ok(questions)
 }
 
-fn tm_state(alloc: Global, tm: TmNo, tm_module: &TxnModule<'_>) -> Result<TmState, NoMemory>
-    requires { (s : Setting) × (log : site.Log) × tm_represents.Represents tm_module.now s log }
-    ensures { IfOk result (λ state. (s : Setting) (log : site.Log) → tm_represents.Represents tm_module.now s log
-        → state ≡ reported_tm s log tm.0) }
+fn tm_state(
+    alloc: Global,
+    tm: TmNo,
+    is_down: bool,
+    tm_module: &TxnModule<'_>,
+) -> Result<TmState, NoMemory>
+    requires { (s : Setting) × (log : site.Log) × tm_represents.Queues tm_module.now s log }
+    ensures { IfOk result (λ state. (s : Setting) (log : site.Log) → tm_represents.Queues tm_module.now s log
+        → state ≡ reported_tm s log tm.0 is_down) }
 {
     let runs = tm_module.classes();
     let asks = open_questions(alloc, runs)?;
     let active = actives(alloc, runs)?;
     Ok(TmState {
         tm,
+        is_down,
         clock: ticks(tm_module.bound()),
         on_hold: tm_module.is_on_hold(),
         owes_held: tm_module.owes_held(),
@@ -362,9 +368,12 @@ pub(crate) fn state(
     let sites = world.sites();
     match at {
         Site::U => Ok(SiteState::U(state_of_u(alloc, world, dones)?)),
-        Site::T(tm) => Ok(SiteState::T(tm_state(alloc, tm, sites.txn_module(tm))?)),
+        Site::T(tm) => {
+            let down = world.is_down(Site::T(tm));
+            Ok(SiteState::T(tm_state(alloc, tm, down, sites.txn_module(tm))?))
+        }
         Site::D(dm) => {
-            let down = world.is_down(dm);
+            let down = world.is_down(Site::D(dm));
             Ok(SiteState::D(dm_state(alloc, dm, down, sites.data_module(dm))?))
         }
     }

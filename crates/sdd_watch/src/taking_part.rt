@@ -77,8 +77,8 @@ fn concerns(event: &Event, found: &Found, home: Site, at: Site) -> bool
     match event {
         Event::Submit(_) => is_same(home, at),
         Event::Tick { tm, .. } => is_same(Site::T(*tm), at),
-        Event::Down(dm) => is_found_at(found, Site::D(*dm), at),
-        Event::Up(dm) => is_found_at(found, Site::D(*dm), at),
+        Event::Down(here) => is_found_at(found, *here, at),
+        Event::Up(here) => is_found_at(found, *here, at),
         Event::Redeclare => is_txn_module(at),
         _ => false,
     }
