@@ -114,6 +114,7 @@ def check_clicks(browser, programs, folder, examples):
     for name in CLICKED:
         yield name, lambda name=name: whole_workload(browser, programs, folder, *examples[name])
     yield "the page at an earlier moment", lambda: earlier(browser, programs, folder, *examples["rejected_read"])
+    yield "modules that go down", lambda: turned(browser, programs, folder, *examples["rejected_read"])
     yield "refusals", lambda: refusals(browser, programs, folder, *examples["rejected_read"])
     yield "16 by 16 sites", lambda: matrix(browser, programs, folder)
 
@@ -182,6 +183,19 @@ def earlier(browser, programs, folder, catalogue, workload):
         served.click("#anew")
         same("the schedule that begins anew", served.events(), [])
         same("what can be submitted", served.page.tell("[...document.querySelectorAll('#unsubmitted option')].map(x => x.textContent)"), ["sell", "close"])
+
+
+def turned(browser, programs, folder, catalogue, workload):
+    """Modules of both kinds are taken down and up; what is submitted to one that is down queues."""
+    lines = {"down T1": ["site-T1"], "submit sell": ["site-T1"], "up T1": [], "down D1": ["site-D1"], "up D1": []}
+    with Served(browser, programs, catalogue, workload, folder) as served:
+        served.click("#anew")
+        for k, (line, down) in enumerate(lines.items(), 1):
+            served.make(line)
+            same("the schedule", served.events(), list(lines)[:k])
+            same("the modules that are down", served.page.tell("[...document.querySelectorAll('.site.down')].map(x => x.id)"), down)
+            same("what queues at T1", served.page.tell("document.querySelectorAll('#site-T1 .queued').length"), int(line == "submit sell"))
+        same("what runs at T1", served.page.tell("document.querySelector('#site-T1 .attempt').textContent.split(' ')[0]"), "sell#1")
 
 
 def refusals(browser, programs, folder, catalogue, workload):

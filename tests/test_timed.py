@@ -16,7 +16,7 @@ from sdd.design.latencies import percentile
 from sdd.design.milliseconds import Design
 from sdd.design.times import near_of, read_times
 from sdd.model.files import BadInput, write_text
-from sdd.model.workload import Event, Site
+from sdd.model.workload import Event, Site, sites_of
 from sdd.reference.report import trace_line
 from sdd.reference.world import run
 
@@ -48,9 +48,9 @@ def drawn_design(seed):
         events.append(Event("submit", n))
         events += [Event("settle")] if rng.random() < 0.1 else []
         events += [Event("tick", a=Site("T", rng.randint(1, cat.tms)), n=rng.randint(1, 5))] if rng.random() < 0.1 else []
-        events += [Event(rng.choice(["down", "up"]), a=Site("D", rng.randint(1, cat.dms)))] if rng.random() < 0.15 else []
+        events += [Event(rng.choice(["down", "up"]), a=rng.choice(sites_of(cat)[1:]))] if rng.random() < 0.15 else []
         if lists and rng.random() < 0.2:
-            events += [Event("up", a=Site("D", d)) for d in range(1, cat.dms + 1)] + [Event("redeclare")]
+            events += [Event("up", a=site) for site in sites_of(cat)[1:]] + [Event("redeclare")]
             lists -= 1
     return rng, Design("", "", cat, work._replace(events=events))
 

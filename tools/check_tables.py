@@ -27,7 +27,7 @@ LAWS = [
     ("sdd_acyclic", "law_protocols_leave_no_cycle", "reads that follow the protocol table leave no cycle of precedence"),
     ("sdd_laws", "law_replay", "one database that runs the transactions in the serial order gives their replies"),
     ("sdd_control", "law_all_or_none", "a commit that backup sites complete is made everywhere or nowhere"),
-    ("sdd_progress", "law_finished", "where the links are quiet and no data module is down, all that was submitted is committed"),
+    ("sdd_progress", "law_finished", "where the links are quiet and no module is down, all that was submitted is committed"),
     ("sdd_run", "law_one_report", "of a catalogue and a workload there is one report at most"),
 ]
 STATEMENTS = [

@@ -149,6 +149,14 @@ LOGS = [
      "txn x T1\nquery 1.val from item\ndone\ntxn y T2\nquery 1.val from item\ndone\nsubmit x\nsettle\nsubmit y\nsettle\nend\n",
      ("row item 1 5\n", "", "row item 1 6\n")),
     ("down_twice", "Downs", "an `up` where it is up and a `down` where it is down find nothing to do", ONE_CLASS, "up D1\ndown D1\ndown D1\nend\n"),
+    ("begun_once_up", "HomesDown", "a transaction module is down while a HOLD comes and a transaction is submitted: once it is up it begins that one, "
+     "and then takes the HOLD", ONE_OF_TWO, "txn y T1\nput item 1 5\ndone\ntxn u T2\nquery 1.val from item\ndone\ndown T1\nsubmit u\n"
+     "deliver U T1 1\ntick T1 2\nsubmit y\nup T1\nend\n"),
+    ("rows_kept", "HomesDown", "a transaction module is down while the rows of its attempt come: it commits once it is up, and begins the next one", ONE_CLASS,
+     "txn q T1\nquery 1.id from acct\ndone\n" + PUT + "submit q\ndeliver T1 D1 1\ndeliver D1 T1 2\ndeliver T1 D1 2\ndown T1\ndeliver D1 T1 3\n"
+     "submit p\nup T1\nend\n"),
+    ("home_stays_down", "HomesDown", "while it is down it begins nothing; a second `down`, and an `up` where it is up, find nothing to do", ONE_CLASS,
+     PUT + "up T1\ndown T1\ndown T1\nsubmit p\ntick T1 1\nend\n"),
     ("rejected_by_two", "Rejections", "a query comes after two later puts of each of two classes: the Reject names the greatest put of the lowest class",
      TWO_WRITERS, "txn x T1\nquery 1.val from item\ndone\n"
      + "".join("txn %s %s\nput item %d 5\ndone\n" % t for t in (("y1", "T2", 1), ("y2", "T2", 2), ("z1", "T3", 3), ("z2", "T3", 4)))

@@ -1,11 +1,11 @@
 #!/usr/bin/env python3
-"""Writes crates/sdd_inside_laws/specs/WorkedLines.antt: what the definitions print of events of worked logs.
+"""Writes WorkedLines.antt and WorkedDowns.antt of crates/sdd_inside_laws/specs: what the definitions print of events of worked logs.
 
     tools/write_inside_examples.py [--check]
 
 Of some of the workloads of log_examples.py each row has the line of an event, computed from the definitions and as the
-reference prints it (`sdd reference inside`). `rt fmt` in the crate lays the file out. With --check nothing is written: it
-ends with 1 where the file would be another.
+reference prints it (`sdd reference inside`). Those of modules that go down stand in a file of their own. `rt fmt` in the crate
+lays the files out. With --check nothing is written: it ends with 1 where one would be another.
 """
 import argparse
 import os
@@ -18,8 +18,9 @@ from sdd.model.workload import read_workload
 from sdd.reference.inside import Watch, spelled
 from sdd.reference.world import World
 
-TARGET = os.path.join(os.path.dirname(os.path.abspath(__file__)), "..", "crates", "sdd_inside_laws", "specs", "WorkedLines.antt")
+FOLDER = os.path.join(os.path.dirname(os.path.abspath(__file__)), "..", "crates", "sdd_inside_laws", "specs")
 WIDTH = 100
+OF_DOWNS = {"Downs", "HomesDown"}       # the modules of log_examples.py whose lines stand in WorkedDowns.antt
 
 # A log, a name, the event, and what its line shows.
 ROWS = [
@@ -46,6 +47,12 @@ ROWS = [
     ("down_and_up", "comes_up", 5, "an `up` that finds the module down: what was kept is handed over"),
     ("down_twice", "up_already", 1, "an `up` that finds the module up: it found nothing, and no site took part"),
     ("down_twice", "down_already", 3, "a `down` that finds the module down"),
+    ("begun_once_up", "t_goes_down", 1, "T: it goes down"),
+    ("begun_once_up", "kept_of_u", 3, "a HOLD arrives for a transaction module that is down, and isn't handed over"),
+    ("begun_once_up", "t_down_ticks", 4, "T: down, its clock goes on"),
+    ("begun_once_up", "t_down_queues", 5, "T: down, its queue grows, and no attempt begins"),
+    ("begun_once_up", "t_comes_up", 6, "T: up again; what queued began and committed before the HOLD was handed over"),
+    ("rows_kept", "t_down_amid", 5, "T: it goes down while its attempt lacks rows"),
     ("lost_and_repeated", "lost", 3, "links: a packet is lost"),
     ("lost_and_repeated", "repeated", 4, "links: a message that was told before is told by its number"),
     ("lost_and_repeated", "early", 5, "links: a message arrives before an earlier one, which none has passed"),
@@ -57,7 +64,7 @@ ROWS = [
     ("deleted_and_put", "from_two_links", 25, "what was kept of two links is handed over; the row that a later change deleted stays so"),
 ]
 
-HEAD = """-- Worked lines, written by tools/write_inside_examples.py: what the definitions print of events of worked logs. A log names
+HEADS = {"WorkedLines": """-- Worked lines, written by tools/write_inside_examples.py: what the definitions print of events of worked logs. A log names
 -- nothing; the names stand beside it.
 use Rattle.std.specs.Prelude.{ℕ, suc, ◌≡◌, List, [], ◌∷◌, ◌++◌, codes, map, refl}
 use Rattle.std.specs.Fmt.{digits}
@@ -67,11 +74,20 @@ use Rattle.sdd_inside.specs.Examples.{named, txn}
 use Rattle.sdd_inside.specs.Json.{also}
 use Rattle.sdd_inside.specs.Lines.{line}
 use Rattle.sdd_watch.specs.Moments.{at_event}
-use Rattle.sdd_watch.specs.Text.{change, inside_text}
+use Rattle.sdd_watch.specs.Text.{change}
 
 -- the line of the event after so many others, by catalogue and transactions with names
-abbrev line_after : Catalogue → List Txn → Input → Log → ℕ → List ℕ
+abbrev pub line_after : Catalogue → List Txn → Input → Log → ℕ → List ℕ
 line_after cat txns g log before = line cat txns (change g (at_event before log) (at_event (suc before) log))
+""", "WorkedDowns": """-- Worked lines of modules that go down, written by tools/write_inside_examples.py.
+use Rattle.std.specs.Prelude.{◌≡◌, List, [], ◌∷◌, ◌++◌, codes, map, refl}
+use Rattle.std.specs.Fmt.{digits}
+%s
+use Rattle.sdd_obligations.specs.All.{Catalogue, Txn}
+use Rattle.sdd_inside.specs.Examples.{named, txn}
+use Rattle.sdd_inside.specs.Json.{also}
+use Rattle.sdd_watch.specs.Text.{inside_text}
+use Rattle.sdd_inside_laws.specs.WorkedLines.{line_after}
 
 -- a whole text, of a log whose fragment has no name
 pub whole_text
@@ -82,7 +98,7 @@ pub whole_text
     ++ codes "{\\"event\\":3,\\"of\\":3,\\"do\\":\\"down D1\\",\\"nothing\\":true}\\n"
 unfolding digits also
 whole_text = refl
-"""
+"""}
 
 
 def quoted(text):
@@ -106,14 +122,14 @@ def lines_of(cat, work):
     return [spelled(watch.line(x)) for x in watch.world.happens()]
 
 
-def text():
+def text_of(target):
     logs = {x[0]: x for x in LOGS}
-    used = list(dict.fromkeys(x[0] for x in ROWS))
+    used = [name for name in dict.fromkeys(x[0] for x in ROWS) if (logs[name][1] in OF_DOWNS) == (target == "WorkedDowns")]
     homes = {}
     for name in used:
         homes.setdefault(logs[name][1], []).extend(["input_of_" + name, "log_of_" + name])
     imports = "\n".join("use Rattle.sdd_log_examples.specs.%s.{%s}" % (x, ", ".join(sorted(homes[x]))) for x in sorted(homes))
-    found = [HEAD % imports]
+    found = [HEADS[target] % imports]
     for name in used:
         cat = read_catalogue(logs[name][3].encode())
         work = read_workload(cat, logs[name][4].encode())
@@ -130,9 +146,9 @@ def text():
     return "\n".join(found)
 
 
-def same(made):
+def same(path, made):
     """Whether the file is that text, as `rt fmt` lays it out."""
-    with open(TARGET, encoding="utf-8") as f:
+    with open(path, encoding="utf-8") as f:
         return "".join(f.read().split()) == "".join(made.split())
 
 
@@ -140,13 +156,16 @@ def main():
     asked = argparse.ArgumentParser(description=__doc__.split("\n")[0])
     asked.add_argument("--check", action="store_true", help="write nothing")
     asked = asked.parse_args()
-    made = text()
-    if asked.check:
-        print("" if same(made) else "%s would be another" % os.path.normpath(TARGET))
-        return int(not same(made))
-    with open(TARGET, "w", encoding="utf-8") as f:
-        f.write(made)
-    return 0
+    different = 0
+    for target in HEADS:
+        path, made = os.path.normpath(os.path.join(FOLDER, target + ".antt")), text_of(target)
+        if not asked.check:
+            with open(path, "w", encoding="utf-8") as f:
+                f.write(made)
+        elif not same(path, made):
+            different += 1
+            print("%s would be another" % path)
+    return int(different > 0)
 
 
 if __name__ == "__main__":

@@ -108,10 +108,8 @@ def event(e):
         words.append(number("txn_no", e.txn))
     elif e.word == "tick":
         words.append(number("tm_no", e.a.number))
-    elif e.word in ("down", "up"):
-        words.append(number("dm_no", e.a.number))
     elif e.a:
-        words += [site(e.a), site(e.b)]
+        words += [site(x) for x in (e.a, e.b) if x]
     return " ".join(words + ([str(e.n)] if e.n else []))
 
 

@@ -4,7 +4,7 @@
 const MOST_WORKLOAD = 4 * 2 ** 20, MOST_LINES = 20000, MOST_SECONDS = 60;
 const EVENT = (() => {
   const module = "(?:[1-9]|1[0-6])", site = `(?:U|[TD]${module})`, number = "[1-9][0-9]{0,9}", name = "[A-Za-z][A-Za-z0-9_]{0,31}";
-  return new RegExp(`^(?:submit ${name}|(?:deliver|lose|repeat) ${site} ${site} ${number}|resend ${site} ${site}|tick T${module} ${number}|(?:down|up) D${module}|settle|redeclare)$`);
+  return new RegExp(`^(?:submit ${name}|(?:deliver|lose|repeat) ${site} ${site} ${number}|resend ${site} ${site}|tick T${module} ${number}|(?:down|up) [TD]${module}|settle|redeclare)$`);
 })();
 
 class Game {

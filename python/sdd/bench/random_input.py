@@ -5,7 +5,7 @@ A schedule is drawn while the reference carries it out, so that most events find
 from sdd.model.catalogue import Catalogue, Class, Fragment, Relation
 from sdd.model.statements import Assign, Column, Compare, Delete, Put, Query, Same, Txn, Update
 from sdd.model.words import GREATEST, LEAST, OPERATORS
-from sdd.model.workload import Event, Site, Workload
+from sdd.model.workload import Event, Site, Workload, sites_of
 from sdd.reference.world import World
 
 TEXTS = ["", "a", "b", "ab", 'q"t', "b\\s", "é", "z z", "\t"]
@@ -200,9 +200,7 @@ def an_event(rng, world, left, lists):
     if x < 0.27:
         return Event("tick", a=Site("T", rng.randint(1, world.cat.tms)), n=rng.choice([1, 1, 2, 5, 2**20]))
     if x < 0.31:
-        site = Site("D", rng.randint(1, world.cat.dms))
-        is_down = site in world.down
-        return Event("up" if is_down != (rng.random() < 0.1) else "down", a=site)
+        return a_turn(rng, world)
     if x < 0.325:
         return Event("settle")
     if not flying and not still and rng.random() < 0.8:
@@ -214,6 +212,14 @@ def an_event(rng, world, left, lists):
     (a, b), way = rng.choice(flying if rng.random() < 0.5 else flying[-3:])
     word = "deliver" if x < 0.9 else rng.choice(["lose", "repeat"])
     return Event(word, a=a, b=b, n=1 if rng.random() < 0.7 else rng.randint(1, len(way.flight)))
+
+
+def a_turn(rng, world):
+    """A module of either kind goes down or comes up; one that is down is drawn more often, so that outages end."""
+    down = sorted(world.down, key=lambda site: site.rank)
+    site = rng.choice(down if down and rng.random() < 0.4 else sites_of(world.cat)[1:])
+    is_down = site in world.down
+    return Event("up" if is_down != (rng.random() < 0.1) else "down", a=site)
 
 
 def scheduled(rng, with_lists=False):

@@ -37,9 +37,9 @@ side, and the changes of the protocol table are listed. The picture (SVG) has th
 
 The line above the table has the packets that arrived for each commit, with their acknowledgements.
 
-Where the workload leaves a data module down at its end, a last list has what isn't committed then, and on which of
-these modules it may hang: one at which its class reads, or one that a class needs for which it waits, two and more
-steps away.
+Where the workload leaves a module down at its end, a last list has what isn't committed then, and on which of these
+modules it may hang: that of its class, one at which its class reads, or one that a class needs for which it waits, two
+and more steps away.
 
 --pace is how many rounds lie between two submissions, on the average (4): the less, the more transactions
 are under way at once. --faults is how many of 100 events lose, repeat or resend packets (0).
@@ -79,7 +79,7 @@ class Design(NamedTuple):
     links: int
     transactions: int
     packets: float          # that arrived, for each commit
-    pending: list           # of what isn't committed at the end, where a data module is down: Pending
+    pending: list           # of what isn't committed at the end, where a module is down: Pending
 
 
 class Explorer:

@@ -97,7 +97,7 @@ def print_notes(design):
         print("\n%s %s at work more than 90%% of the time: more comes than goes, and the more transactions there are the longer they queue." % (
             join_names(full), "is" if len(full) == 1 else "are"))
     if found.unended:
-        print("\n%d transactions didn't end: a data module stays down" % found.unended)
+        print("\n%d transactions didn't end: a module stays down" % found.unended)
 
 
 def print_two(designs):

@@ -116,7 +116,7 @@ class TimedRun(Modules, Stores):
         elif kind == TICK:
             self.modules[event.a.number].ticks += event.n
         else:
-            self.turn(self.stores[event.a.number - 1], kind == DOWN)
+            self.turn(event.a, kind == DOWN)
 
     def submit(self, number):
         plan = self.plans.plan(number, self.era)
@@ -130,16 +130,20 @@ class TimedRun(Modules, Stores):
         else:
             self.serve_undeclared()
 
-    def turn(self, store, is_down):
-        """A data module that is down takes no messages; what arrived meanwhile comes once it is up, link by link."""
-        if store.is_down == is_down and self.trace is not None:
+    def turn(self, site, is_down):
+        """A module that is down takes no messages and starts nothing; once it is up it starts what queues, and then takes what arrived, link by link."""
+        is_store = site.kind == "D"
+        at = self.stores[site.number - 1] if is_store else self.modules[site.number]
+        if at.is_down == is_down and self.trace is not None:
             self.record("nothing")
-        store.is_down = is_down
+        at.is_down = is_down
         if not is_down:
-            held, store.held_back = store.held_back, {}
+            take, held, at.held_back = self.at_store if is_store else self.at_module, at.held_back, {}
+            if not is_store:
+                self.start_next(at)
             for sender in sorted(held):
                 for message in held[sender]:
-                    self.at_store(store, sender, message)
+                    take(at, sender, message)
 
     def redeclare(self):
         self.era += 1

@@ -18,13 +18,14 @@ class Line:
 
 class Module:
     """A transaction module, or that of undeclared transactions."""
-    __slots__ = ("site", "number", "ticks", "lines", "by_class", "holds", "helds", "releases")
+    __slots__ = ("site", "number", "ticks", "lines", "by_class", "holds", "helds", "releases", "is_down", "held_back")
 
     def __init__(self, site, number, classes):
         self.site, self.number, self.ticks = site, number, 0
         self.lines = [Line(c) for c in classes]
         self.by_class = {line.cls: line for line in self.lines}
         self.holds = self.helds = self.releases = 0
+        self.is_down, self.held_back = False, {}
 
     def push(self, time):
         if time >> 6 > self.ticks:
@@ -49,6 +50,9 @@ class Modules:
     """What a run does at its transaction modules."""
 
     def at_module(self, module, sender, message):
+        if module.is_down:
+            module.held_back.setdefault(sender, []).append(message)
+            return
         kind = message[0]
         if kind == ASK:
             self.asked(module, module.by_class[message[1]], sender, message[2])
@@ -135,8 +139,8 @@ class Modules:
         self.ask(module, attempt, stores, REDUCED, (REDUCE, move.target, move.target_column, frozenset(attempt.union)))
 
     def start_next(self, module):
-        """Starts what can start; a transaction that reads nothing commits at once."""
-        again = True
+        """Starts what can start, unless the module is down; a transaction that reads nothing commits at once."""
+        again = not module.is_down
         while again:
             again = False
             for line in module.lines if module.number else ():

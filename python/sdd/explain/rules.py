@@ -28,7 +28,7 @@ OF_WORKLOAD = {
                   "no plus sign, no zeros in front, no -0; texts stand between \" and \"; places and ticks are 1 to 1048576"),
     "UnknownName": ("the name is of nothing that is there", "compare it with the catalogue; a transaction is submitted after its `txn`"),
     "BadEvent": ("the site or the link isn't there, or it is of the wrong kind, or the event may not stand here", "links join U and a T, U and a D, or a T and a D; "
-                 "transactions and ticks are of a T, `down`, `up` and `reads` of a D"),
+                 "transactions and ticks are of a T, `reads` of a D, `down` and `up` of a T or a D"),
     "WrongKind": ("a value has another kind than its column, or the number of values isn't that of the columns",
                   "give a value for each column in the catalogue's order: texts between quotes, numbers without"),
     "KeyChanged": ("an assignment changes the key", "delete the row, and put one with the other key"),
@@ -42,7 +42,7 @@ FORMS = {
     "row": "row REL V ..", "txn": "txn NAME Tn", "put": "put REL V ..", "query": "query REF .. from REL .. where COND and COND",
     "update": "update REL set REF = V REF += N where COND", "delete": "delete REL where COND", "done": "done", "list": "list",
     "class": "class NAME Tn", "reads": "reads FRAG Dn", "writes": "writes FRAG", "submit": "submit NAME", "deliver": "deliver A B K",
-    "lose": "lose A B K", "repeat": "repeat A B K", "resend": "resend A B", "tick": "tick Tn N", "down": "down Dn", "up": "up Dn",
+    "lose": "lose A B K", "repeat": "repeat A B K", "resend": "resend A B", "tick": "tick Tn N", "down": "down Sn", "up": "up Sn",
     "settle": "settle", "redeclare": "redeclare", "end": "end", "control": "control B W", "step": "step I", "stop": "stop I",
 }
 WITHOUT_FILE = {

@@ -196,7 +196,7 @@ class Reader:
         must("SubmittedTwice", key != "submit" or made.txn not in self.is_submitted, words[0] if words else key, "{} is submitted before")
         if key == "redeclare":
             must("BadEvent", self.redeclared < len(self.lists), key, "each `redeclare` needs a `list` of its own before the events")
-            must("BadEvent", not self.down, key, "no data module may be down")
+            must("BadEvent", not self.down, key, "no module may be down")
         must("TooMany event", len(self.events) < MAX_EVENTS)
         self.is_submitted |= {made.txn}
         self.redeclared += key == "redeclare"
@@ -217,7 +217,7 @@ class Reader:
         if key == "tick":
             return Event("tick", a=self.module(words[0], "T"), n=self.number(words[1]))
         if key in ("down", "up"):
-            return Event(str(key), a=self.module(words[0], "D"))
+            return Event(str(key), a=self.module(words[0], "TD"))
         return Event(str(key))
 
     def end(self, key: str, words: Sequence[str]) -> None:
@@ -245,8 +245,8 @@ class Reader:
             must("BadEvent", False, word, "{} isn't there: the catalogue has T1 to T%d and D1 to D%d" % (self.cat.tms, self.cat.dms))
         return Site(word[0], number or 0)
 
-    def module(self, word: str, kind: str) -> Site:
-        must("BadEvent", word[:1] not in "UTD" or word[:1] == kind, word, "{} is no data module" if kind == "D" else "{} is no transaction module")
+    def module(self, word: str, kinds: str) -> Site:
+        must("BadEvent", word[:1] not in "UTD" or word[:1] in kinds, word, WRONG_KIND[kinds])
         return self.site(word)
 
     def number(self, word: str) -> int:
@@ -264,6 +264,8 @@ def takes(words: Sequence[str], count: int) -> None:
 
 
 NO_SITE = "{} is no site: sites are U, T1, T2 .., D1, D2 .."
+WRONG_KIND = {"T": "{} is no transaction module", "D": "{} is no data module",
+              "TD": "{} never goes down: a transaction module or a data module does"}
 LINES: dict[str, Callable[[Reader, str, Sequence[str]], None]] = {
     "row": Reader.row, "txn": Reader.txn, "done": Reader.done, "list": Reader.list, "class": Reader.cls,
     "reads": Reader.reads, "writes": Reader.writes, "end": Reader.end}

@@ -168,9 +168,10 @@ class Watch:
 
     def site(self, site):
         module = self.world.sites[site]
+        reported = {"at": str(site), **some(down=site in self.world.down)}
         if site.kind == "D":
-            return {"at": str(site), **some(down=site in self.world.down, heads=self.heads(module))}
-        reported = {"at": str(site), "clock": module.clock.ticks}
+            return {**reported, **some(heads=self.heads(module))}
+        reported["clock"] = module.clock.ticks
         if site == U:
             phase, lacks = self.phase_of(module)
             reported.update(phase=phase, **some(lacks=lacks))

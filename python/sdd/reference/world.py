@@ -1,8 +1,8 @@
 """A run: the events of a schedule, one after the other, and all that is due behind each.
 
-Behind an event each site does what is due there, then messages are handed over, link by link and in order, until neither
-is left; a settle makes rounds until the links are quiet. Definition: crates/sdd_log/specs/Due.antt, Marks.antt,
-Traffic.antt, Lawful.antt.
+Behind an event each site that isn't down does what is due there, then messages are handed over, link by link and in
+order, until neither is left; a settle makes rounds until the links are quiet. Definition: crates/sdd_log/specs/Due.antt,
+Marks.antt, Traffic.antt, Lawful.antt.
 """
 from typing import NamedTuple
 
@@ -85,9 +85,7 @@ class World:
             self.sites[a].clock.tick(n)
             self.busy.add(a)
         elif word in ("down", "up"):
-            is_new = (a in self.down) == (word == "up")
-            self.down = self.down | {a} if word == "down" else self.down - {a}
-            return is_new
+            return self.turn(a, word == "down")
         else:
             self.redeclare()
         return True
@@ -100,6 +98,14 @@ class World:
         self.busy.add(self.homes[n])
         return True
 
+    def turn(self, site, is_down):
+        """A module goes down or comes up; once it is up it does what is due there before anything is handed to it."""
+        if (site in self.down) == is_down:
+            return False
+        self.down = self.down | {site} if is_down else self.down - {site}
+        self.busy |= set() if is_down else {site}
+        return True
+
     def redeclare(self):
         """The next class list is in force, at the greatest bound of the clocks."""
         self.eras = self.eras[1:]
@@ -110,8 +116,8 @@ class World:
         self.busy |= set(modules)
 
     def finish(self):
-        """All that is due: acts at sites, and then one message is handed over, and so on."""
-        todo = sorted(self.busy, key=lambda site: site.rank)
+        """All that is due: acts at sites, at none that is down, and then one message is handed over, and so on."""
+        todo = sorted(self.busy - self.down, key=lambda site: site.rank)
         while True:
             for site in todo:
                 while act := self.sites[site].act():

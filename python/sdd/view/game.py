@@ -22,7 +22,7 @@ MOST_SECONDS = 20           # for a run
 MOST_LINES = 66             # of a transaction
 SITE, MODULE = r"(?:U|[TD](?:[1-9]|1[0-6]))", r"(?:[1-9]|1[0-6])"
 NAME, NUMBER = r"[A-Za-z][A-Za-z0-9_]{0,31}", r"[1-9][0-9]{0,9}"
-EVENT = re.compile("(?:submit {n}|(?:deliver|lose|repeat) {s} {s} {k}|resend {s} {s}|tick T{m} {k}|(?:down|up) D{m}|settle|redeclare)".format(
+EVENT = re.compile("(?:submit {n}|(?:deliver|lose|repeat) {s} {s} {k}|resend {s} {s}|tick T{m} {k}|(?:down|up) [TD]{m}|settle|redeclare)".format(
     n=NAME, s=SITE, k=NUMBER, m=MODULE))
 FAULT = re.compile(r"workload: line (\d+): (.+)")
 

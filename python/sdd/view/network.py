@@ -21,7 +21,7 @@ LIST = {"stroke": "#3949ab", "stroke_width": "1.4", "stroke_dasharray": "5 3"}
 class Mark(NamedTuple):
     event: int
     kind: str               # lose, repeat, down, up, redeclare
-    site: str               # the data module in whose lane it stands, or U; of a redeclare nothing
+    site: str               # the module in whose lane it stands, or U; of a redeclare nothing
     line: str               # as a workload spells it
     text: str
 
@@ -72,23 +72,25 @@ def judge_catalogue(report, catalogue, lists):
 
 # How marks are drawn.
 
+def lanes_of(picture, site):
+    """The lanes of a site: a data module has its own, U and a transaction module have those of the classes at home there."""
+    return [lane for (kind, name), lane in picture.lanes.items() if (name if kind == "module" else lane.site) == site]
+
+
 def add_marks(picture, marks):
     """Puts the marks into the lanes of a picture."""
     downs = {}
     for mark in marks:
-        lane = picture.lanes.get(("module", mark.site) if mark.site != "U" else ("class", "-"))
-        if mark.kind == "redeclare" and picture.columns.has(mark.event):
-            picture.kinds.add("redeclare")
-        if lane is None:
-            continue
         if mark.kind == "down":
             downs[mark.site] = mark
         elif mark.kind == "up":
-            add_down(picture, lane, downs.pop(mark.site), mark)
+            add_downs(picture, downs.pop(mark.site), mark)
         elif picture.columns.has(mark.event):
-            add_packet(picture, lane, mark)
+            picture.kinds |= {"redeclare"} if mark.kind == "redeclare" else set()
+            for lane in lanes_of(picture, mark.site):
+                add_packet(picture, lane, mark)
     for mark in downs.values():
-        add_down(picture, picture.lanes["module", mark.site], mark, None)
+        add_downs(picture, mark, None)
 
 
 def list_lines(picture, top, bottom):
@@ -111,9 +113,14 @@ def add_packet(picture, lane, mark):
     lane.add(NETWORK, Item(x - 6, x + 11 + svg.width_of(mark.text), draw))
 
 
+def add_downs(picture, begin, end):
+    """A module is down from one mark to the next; where there is none, to the end."""
+    if picture.is_open(begin, end):
+        for lane in lanes_of(picture, begin.site):
+            add_down(picture, lane, begin, end)
+
+
 def add_down(picture, lane, begin, end):
-    if not picture.is_open(begin, end):
-        return
     left, over = picture.columns.x(begin.event), end is not None and end.event <= picture.last
     right = max(left + 8, picture.columns.x(end.event) if over else picture.columns.right)
     reported = begin.line + ("\n" + end.line if end else "")

@@ -7,7 +7,7 @@ with an attempt from its start to its commit, and one for each data module, with
 there, the changes that were applied, and the times that classes passed. Below stands the serial order.
 CATALOGUE adds the transaction module of each class, and all its classes and modules, in their order;
 without it the lanes are those of which the report speaks. WORKLOAD adds what the network does: packets
-that are lost or repeated, data modules that are down, and the class lists that are put in force,
+that are lost or repeated, modules that are down, and the class lists that are put in force,
 with the modules of their classes; the numbers of these events are reported by the programs that sdd page
 takes. Of a long report the first 120 columns are drawn where --from and --to
 name no others. Under the pointer each mark tells its line of the report.
@@ -39,7 +39,7 @@ text{font-family:'DejaVu Sans',Verdana,sans-serif;font-size:10px;fill:#222}
 LEGEND = {"submit": "given to its site", "bar": "an attempt, from its start to its commit", "no": "an attempt that is rejected",
           "wait": "a read waits for these classes to pass these times", "answer": "a read is answered", "reject": "a read is rejected",
           "apply": "changes are applied", "held": "changes that were held behind the read", "pass": "a class passes a time", "lose": "a packet is lost", "repeat": "a packet is repeated",
-          "down": "the data module is down", "redeclare": "a class list is put in force"}
+          "down": "the module is down", "redeclare": "a class list is put in force"}
 
 
 class Picture:

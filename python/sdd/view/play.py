@@ -3,7 +3,7 @@
     sdd play CATALOGUE [WORKLOAD] [--port NUMBER] [--program COMMAND] [--inside COMMAND]
 
 It prints an address; open it in a browser on this machine. A click on a packet delivers, loses or repeats
-it; buttons submit a transaction, settle, tick a clock, resend, take a data module down and up; a form adds
+it; buttons submit a transaction, settle, tick a clock, resend, take a module down and up; a form adds
 a transaction of your own. After each step the program runs the whole workload anew. `save the workload`
 gives a file that `sdd1 run` takes. Without WORKLOAD there are no rows and no transactions at first.
 

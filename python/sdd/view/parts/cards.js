@@ -61,13 +61,22 @@ function siteCard(view, site, line, isShort = false) {
   if ((line?.sites || []).some(reported => reported.at === site)) card.classList.add("touched");
   body.append(head);
   if (site[0] === "D") dataModule(view, site, line, card, head, body);
-  else transactionModule(view, site, head, body);
+  else transactionModule(view, site, card, head, body);
   const tray = trayOf(view, site, line, isShort);
   card.append(...(site[0] === "D" ? [tray, body] : [body, tray]));
   return card;
 }
 
-function transactionModule(view, site, head, body) {
+// Whether a module is down, and the button that takes it down or up; U never is.
+function markDown(view, site, isDown, card, head) {
+  if (isDown) {
+    card.classList.add("down");
+    head.append(element("span", "state gone", "DOWN"));
+  }
+  if (view.play) head.append(view.play.downButton(site, isDown));
+}
+
+function transactionModule(view, site, card, head, body) {
   const reported = view.state.site(site), number = +site.slice(1) || 0;
   head.append(element("small", "", site === "U" ? "undeclared transactions" : "transaction module"));
   if (reported.hold) {
@@ -75,6 +84,7 @@ function transactionModule(view, site, head, body) {
     mark.title = "An undeclared transaction wants to run: what runs here comes to its end, and nothing new starts.";
     head.append(mark);
   }
+  if (site !== "U") markDown(view, site, reported.down, card, head);
   const clock = element("div", "faint", `clock ${reported.clock}; the next start gets ${(reported.clock + 1) * 64 + number}`);
   clock.title = `A timestamp is the ticks of the clock times 64, and the number of the module, here ${number}.`;
   body.append(clock);
@@ -113,11 +123,7 @@ function attemptOf({txn, time}) {
 function dataModule(view, site, line, card, head, body) {
   const reported = view.state.site(site);
   head.append(element("small", "", "data module"));
-  if (reported.down) {
-    card.classList.add("down");
-    head.append(element("span", "state gone", "DOWN"));
-  }
-  if (view.play) head.append(view.play.downButton(site, reported.down));
+  markDown(view, site, reported.down, card, head);
   body.append(...pipeRows(view, site, reported, line));
   for (const copy of view.run.copiesAt(site)) body.append(copyRows(view, copy));
 }

@@ -1,4 +1,4 @@
-// On which data modules that are down a class may hang, and through which classes: by the rules of `sdd needs`
+// On which modules that are down a class may hang, and through which classes: by the rules of `sdd needs`
 // (docs/FORMATS.md). sdd/design/hanging.py finds the same.
 
 function waitsOf(run) {
@@ -22,15 +22,24 @@ function neededSteps(run, [what, cls]) {
   return steps;
 }
 
+function whyUndeclared(at) { return at[0] === "T" ? `${at} has to hold for an undeclared transaction` : `an undeclared transaction reads at ${at}`; }
+
+// The modules at which an attempt of the class is under way, each with what it does there, in words.
+function modulesOf(run, cls) {
+  const home = run.homeOf.get(cls);
+  return [[home, `${cls} is at home at ${home}`], ...run.readsOf.get(cls).map(dm => [dm, `${cls} reads at ${dm}`])];
+}
+
 // Of each of these modules that an attempt of the class may need the shortest way there, in words.
 function waysTo(run, cls, down) {
-  if (cls === "-") return new Map(down.map(dm => [dm, `an undeclared transaction reads at ${dm}`]));
+  if (cls === "-") return new Map(down.map(at => [at, whyUndeclared(at)]));
   run.waits ??= waitsOf(run);
+  run.homeOf ??= new Map(run.data.classes.map(one => [one.name, one.at]));
   run.readsOf ??= new Map(run.data.classes.map(one => [one.name, one.reads || []]));
   const found = new Map(), reached = new Map([["attempt " + cls, []]]), todo = [["attempt", cls]];
   for (const task of todo) {
-    const way = reached.get(task.join(" ")), at = task[0] === "attempt" ? run.readsOf.get(task[1]) : [];
-    for (const dm of at) if (down.includes(dm) && !found.has(dm)) found.set(dm, [...way, `${task[1]} reads at ${dm}`].join("; "));
+    const way = reached.get(task.join(" ")), modules = task[0] === "attempt" ? modulesOf(run, task[1]) : [];
+    for (const [at, why] of modules) if (down.includes(at) && !found.has(at)) found.set(at, [...way, why].join("; "));
     for (const [other, why] of neededSteps(run, task)) {
       if (reached.has(other.join(" "))) continue;
       reached.set(other.join(" "), why ? [...way, why] : way);
@@ -42,11 +51,11 @@ function waysTo(run, cls, down) {
 
 // Marks of a class with transactions. The table is that of the first list: of later ones nothing is said.
 function hangingMarks(view, cls) {
-  const down = view.run.dms.filter(dm => view.state.site(dm).down);
+  const down = [...view.run.tms, ...view.run.dms].filter(at => view.state.site(at).down);
   if (!down.length || !view.state.queue(cls).length || view.state.list) return [];
-  return [...waysTo(view.run, cls, down)].map(([dm, why]) => {
-    const mark = element("span", "state gone", "may hang on " + dm);
-    mark.title = `${dm} is down: ${why}.`;
+  return [...waysTo(view.run, cls, down)].map(([at, why]) => {
+    const mark = element("span", "state gone", "may hang on " + at);
+    mark.title = `${at} is down: ${why}.`;
     return mark;
   });
 }

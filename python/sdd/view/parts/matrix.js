@@ -53,6 +53,7 @@ function rowHead(view, site, line) {
   head.append(element("span", "small wide", " " + text));
   head.title = text;
   if (reported.hold) head.append(element("b", "state", " HOLD"));
+  if (reported.down) head.append(element("b", "state gone", " DOWN"));
   return head;
 }
 

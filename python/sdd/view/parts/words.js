@@ -20,8 +20,8 @@ function sayEvent(view, line, say) {
   if (verb === "repeat") say("", "The network repeats this packet: the copy flies behind all others of the link.");
   if (verb === "resend") say("", `${from} sends everything again that ${to} hasn't acknowledged.`);
   if (verb === "tick") say("", `The clock of ${from} goes on by ${to}.`);
-  if (verb === "down") say("gone", `${from} goes down. Messages for it are kept, and none gets lost.`);
-  if (verb === "up") say("strong", `${from} comes up, and is handed what was kept for it.`);
+  if (verb === "down") say("gone", `${from} goes down. Messages for it are kept, and none gets lost.${from[0] === "T" ? " What is submitted there queues." : ""}`);
+  if (verb === "up") say("strong", `${from} comes up${from[0] === "T" ? ", starts what can start," : ","} and is handed what was kept for it.`);
   if (verb === "redeclare") say("strong", "The next class list is in force.");
 }
 
@@ -114,6 +114,7 @@ function saySites(line, say) {
   if (users?.phase === "holding") say("", `U waits until every other site holds still; missing: ${(users.lacks || []).join(" ")}.`);
   if (users?.phase === "writing") say("", `U waits until its changes are applied everywhere; missing: ${(users.lacks || []).join(" ")}.`);
   for (const site of line.sites || []) {
+    if (site.down && line.do.startsWith("submit ")) say("bad", `${site.at} is down: it starts nothing before it is up.`);
     if (site.hold && site.owes) say("", `${site.at} is on hold: what runs there comes to its end, and nothing new starts.`);
   }
 }
