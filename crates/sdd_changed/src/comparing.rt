@@ -2,10 +2,10 @@
 ghost use Rattle.std.specs.Prelude.{◌≡◌, IfOk, true};
 
 use crate::changed::Changed;
-use crate::matching::relation_of;
 use crate::own_conditions::has_key;
 use sdd_base::is_same;
-use sdd_lang::{Catalogue, Change, Entry, FragNo, NoMemory, RelNo, Source};
+use sdd_lang::{Catalogue, Change, Entry, NoMemory, RelNo, Source};
+use sdd_plain::relation_of;
 use std::alloc::Global;
 
 fn is_same_entry(a: &Entry, b: &Entry) -> bool

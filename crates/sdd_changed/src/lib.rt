@@ -12,4 +12,3 @@ mod own_conditions;
 
 pub use changed::Changed;
 pub use comparing::are_same_where;
-pub use matching::relation_of;

@@ -2,31 +2,18 @@
 ghost use Rattle.std.specs.Prelude.{◌≡◌, ◌==◌, [], IfOk, OnOk, Some, filter, fold, map};
 ghost use Rattle.std.specs.List.Sorted.{IsStrictlySortedBy};
 ghost use Rattle.std.specs.Map.{keys_of};
-ghost use Rattle.sdd_lang.specs.All.{Database, after_changes, chosen, entries_of, fragment_at, item_cmp, item_of, with_row, without_row};
+ghost use Rattle.sdd_lang.specs.All.{Database, after_changes, chosen, entries_of, item_cmp, item_of, with_row, without_row};
 ghost use Rattle.sdd_plain.specs.Lent.{as_of};
 ghost use Rattle.sdd_changed.specs.Matching.{entered, lent_changes, with_matching};
 
 use sdd_lang::{
-    Catalogue, Change, Condition, Entries, Entry, FragNo, NoMemory, Parcel, RelNo, Row, Source,
-    meets_all,
+    Catalogue, Change, Condition, Entries, Entry, NoMemory, Parcel, RelNo, Row, Source, meets_all,
 };
-use sdd_plain::Plain;
+use sdd_plain::{Plain, relation_of};
 use std::alloc::Global;
 use std::collections::BTreeMap;
 
 type Rows = BTreeMap<(u32, i64), Row>;
-
-/// The relation of a fragment, or 0 where the fragment isn't there. Number 0 stands for fragment 1.
-pub fn relation_of(catalogue: &Catalogue, frag: FragNo) -> u32
-    ensures { result ≡ (fragment_at catalogue.now frag.0).rel.0 }
-{
-    let number = frag.0.max(1);
-    if number <= catalogue.fragments() {
-        catalogue.fragment(FragNo(number)).rel.0
-    } else {
-        0
-    }
-}
 
 /// The changes of rows of the relation.
 fn changes_of<'a>(

@@ -11,3 +11,4 @@ mod plain;
 mod rows;
 
 pub use plain::{Plain, Replies};
+pub use rows::relation_of;

@@ -208,7 +208,7 @@ impl Rows {
 }
 
 /// The relation of a fragment, or 0 where the fragment isn't there. Number 0 stands for fragment 1.
-fn relation_of(catalogue: &Catalogue, frag: FragNo) -> u32
+pub fn relation_of(catalogue: &Catalogue, frag: FragNo) -> u32
     ensures { result ≡ (fragment_at catalogue.now frag.0).rel.0 }
 {
     let number = frag.0.max(1);

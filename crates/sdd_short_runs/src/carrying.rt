@@ -9,9 +9,9 @@ ghost use Rattle.sdd_robust_laws.specs.Runs.{change_one_item, succeeds};
 ghost use Rattle.sdd_short_runs.specs.ShortRuns.{after_effects, effects_in_turn, lent_txns};
 
 use sdd_base::is_same;
-use sdd_changed::{Changed, relation_of};
+use sdd_changed::Changed;
 use sdd_lang::{Catalogue, Change, Effect, NoMemory, Parcel, Reply, Txn, effect_over};
-use sdd_plain::Plain;
+use sdd_plain::{Plain, relation_of};
 use std::alloc::Global;
 
 /// The effect of a transaction on the database with these changes.
