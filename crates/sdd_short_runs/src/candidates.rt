@@ -1,5 +1,6 @@
 //! Short runs that may be like no serial one, in the order in which they are tried.
-use crate::near::{Near, do_conflict, may_run_beside};
+use crate::near::{Near, may_run_beside};
+use crate::places::Places;
 use sdd_lang::NoMemory;
 use sdd_robust::{Member, may_miss, reads_from};
 use sdd_robust_laws::Access;
@@ -13,20 +14,19 @@ pub(crate) struct Candidate<'a> {
     pub path: Vec<&'a Member>,
 }
 
-/// What the pivot reads by an access, and which of those beside it may then miss its changes, each by
-/// its number among these.
+/// What the pivot reads by an access, and which of those beside it may then miss its changes.
 #[derive(Drop)]
 struct MissedRead<'a> {
     read: &'a Access,
-    missing: Vec<bool>,
+    missing: Places,
 }
 
-/// Those that may be the last of a path, by their places, ascending, and for each transaction whether
-/// it conflicts with one of them.
+/// Those that may be the last of a path, and those that conflict with one of them and may run beside
+/// the pivot.
 #[derive(Drop)]
 struct Last {
-    places: Vec<u32>,
-    is_before: Vec<bool>,
+    ends: Places,
+    before: Places,
 }
 
 /// The candidates of one pivot that are found, no more than so many.
@@ -39,10 +39,6 @@ struct Search<'a> {
     found: Vec<Candidate<'a>>,
 }
 
-fn is_set(flags: &[bool], place: u32) -> bool {
-    flags.get(place as usize).copied().unwrap_or(false)
-}
-
 /// Whether the transaction at a place may run while the pivot does, and both commit.
 fn is_beside(near: &Near, pivot: &Member, place: u32) -> bool {
     match near.at(place) {
@@ -51,23 +47,23 @@ fn is_beside(near: &Near, pivot: &Member, place: u32) -> bool {
     }
 }
 
-/// Whether the transactions at two places conflict.
-fn do_conflict_at(near: &Near, one: u32, other: u32) -> bool {
-    match (near.at(one), near.at(other)) {
-        (Some(a), Some(b)) => do_conflict(a, b),
-        _ => false,
+/// Those that conflict with the pivot and may run beside it, by their places.
+fn beside(alloc: Global, near: &Near, pivot: &Member, place: u32) -> Result<Vec<u32>, NoMemory> {
+    match near.conflicting_of(place) {
+        Some(conflicting) => beside_of(alloc, near, pivot, conflicting),
+        None => Ok(Vec::new(alloc)),
     }
 }
 
-/// Those that conflict with the pivot and may run beside it, by their places.
-fn beside(
+/// Those of a set that may run beside the pivot, by their places.
+fn beside_of(
     alloc: Global,
     near: &Near,
     pivot: &Member,
-    conflicting: &[u32],
+    others: &Places,
 ) -> Result<Vec<u32>, NoMemory> {
     let mut beside = Vec::new(alloc);
-    for place in conflicting {
+    for place in &others.list(alloc)? {
         if is_beside(near, pivot, *place) {
             beside.push(*place)?;
         }
@@ -90,10 +86,12 @@ fn missing_by(
     beside: &[u32],
     pivot: &Member,
     read: &Access,
-) -> Result<Vec<bool>, NoMemory> {
-    let mut missing = Vec::with_capacity(alloc, beside.len())?;
+) -> Result<Places, NoMemory> {
+    let mut missing = Places::new(alloc, near.all.len())?;
     for place in beside {
-        missing.push(may_miss_at(near, *place, pivot, read))?;
+        if may_miss_at(near, *place, pivot, read) {
+            missing.add(*place);
+        }
     }
     Ok(missing)
 }
@@ -109,7 +107,7 @@ fn missed_reads<'a>(
     for read in pivot.accesses.as_slice() {
         if read.reads {
             let missing = missing_by(alloc, near, beside, pivot, read)?;
-            if missing.contains(&true) {
+            if !missing.is_empty() {
                 reads.push(MissedRead { read, missing })?;
             }
         }
@@ -117,64 +115,54 @@ fn missed_reads<'a>(
     Ok(reads)
 }
 
-/// Adds flags to those that are set.
-fn set_also(flags: &mut [bool], others: &[bool]) {
-    for number in 0..flags.len() {
-        if others.get(number).copied().unwrap_or(false) {
-            flags[number] = true;
+/// Those that may be the last, where the pivot misses the changes of this first one; None where there
+/// are none.
+fn last_after(
+    alloc: Global,
+    near: &Near,
+    reads: &[MissedRead],
+    first: &Member,
+) -> Result<Option<Places>, NoMemory> {
+    let mut last = None;
+    for missed in reads {
+        if reads_from(missed.read, first.accesses.as_slice()) {
+            let mut ends = match last {
+                Some(ends) => ends,
+                None => Places::new(alloc, near.all.len())?,
+            };
+            ends.add_all(&missed.missing);
+            last = Some(ends);
         }
     }
+    Ok(last)
 }
 
-/// The places whose flags are set.
-fn places_with(alloc: Global, places: &[u32], flags: &[bool]) -> Result<Vec<u32>, NoMemory> {
-    let mut found = Vec::new(alloc);
-    for (place, flag) in places.iter().zip(flags) {
-        if *flag {
-            found.push(*place)?;
+/// Those that conflict with one of these.
+fn conflicting_with_one(alloc: Global, near: &mut Near, ends: &Places) -> Result<Places, NoMemory> {
+    let mut found = Places::new(alloc, near.all.len())?;
+    for end in &ends.list(alloc)? {
+        near.learn(*end)?;
+        match near.conflicting_of(*end) {
+            Some(conflicting) => found.add_all(conflicting),
+            None => {}
         }
     }
     Ok(found)
 }
 
-/// Which of those beside the pivot may be the last, where the pivot misses the changes of this first
-/// one: their places, ascending.
-fn last_after(
+/// Those that conflict with one of these and may run beside the pivot.
+fn before(
     alloc: Global,
-    reads: &[MissedRead],
-    beside: &[u32],
-    first: &Member,
-) -> Result<Vec<u32>, NoMemory> {
-    let mut last = Vec::new(alloc);
-    for missed in reads {
-        if reads_from(missed.read, first.accesses.as_slice()) {
-            if last.is_empty() {
-                last = vec![in alloc; false; beside.len()]?;
-            }
-            set_also(&mut last, missed.missing.as_slice());
-        }
+    near: &mut Near,
+    pivot: &Member,
+    ends: &Places,
+) -> Result<Places, NoMemory> {
+    let conflicting = conflicting_with_one(alloc, near, ends)?;
+    let mut before = Places::new(alloc, near.all.len())?;
+    for place in &beside_of(alloc, near, pivot, &conflicting)? {
+        before.add(*place);
     }
-    places_with(alloc, beside, last.as_slice())
-}
-
-/// Sets the flags of these places.
-fn set_all(flags: &mut [bool], places: &[u32]) {
-    for place in places {
-        let at = *place as usize;
-        if at < flags.len() {
-            flags[at] = true;
-        }
-    }
-}
-
-/// Which transactions conflict with one of those that may be the last.
-fn before(alloc: Global, near: &mut Near, last: &[u32]) -> Result<Vec<bool>, NoMemory> {
-    let mut is_before = vec![in alloc; false; near.all.len()]?;
-    for place in last {
-        near.learn(*place)?;
-        set_all(is_before.as_mut_slice(), near.conflicting_of(*place));
-    }
-    Ok(is_before)
+    Ok(before)
 }
 
 impl<'a> Search<'a> {
@@ -207,10 +195,10 @@ impl<'a> Search<'a> {
         near: &Near<'a>,
         begun: &[u32],
         from: u32,
-        last: &[u32],
+        last: &Last,
     ) -> Result<(), NoMemory> {
-        for end in last {
-            if !self.is_full() && !begun.contains(end) && do_conflict_at(near, from, *end) {
+        for end in &near.conflicting_among(from, &last.ends)? {
+            if !self.is_full() && !begun.contains(end) {
                 self.add_end(near, begun, *end)?;
             }
         }
@@ -224,57 +212,55 @@ impl<'a> Search<'a> {
         self.add(near, path.as_slice())
     }
 
-    /// Whether a path of three may go on from the first one to this one.
-    fn is_second(&self, near: &Near<'a>, first: u32, second: u32, last: &Last) -> bool {
-        second != first
-            && is_set(last.is_before.as_slice(), second)
-            && is_beside(near, self.pivot, second)
-    }
-
     /// Adds the paths of three from this first one.
-    fn add_threes(&mut self, near: &Near<'a>, first: u32, last: &Last) -> Result<(), NoMemory> {
-        for second in near.conflicting_of(first) {
-            if !self.is_full() && self.is_second(near, first, *second, last) {
-                self.add_ends(near, &[first, *second], *second, last.places.as_slice())?;
+    fn add_threes(&mut self, near: &mut Near<'a>, first: u32, last: &Last) -> Result<(), NoMemory> {
+        for second in &near.conflicting_among(first, &last.before)? {
+            if !self.is_full() && *second != first {
+                near.learn(*second)?;
+                self.add_ends(near, &[first, *second], *second, last)?;
             }
         }
         Ok(())
     }
 
     /// Adds the paths that begin with one and end with one that may be the last.
-    fn add_paths(&mut self, near: &Near<'a>, first: u32, last: &Last) -> Result<(), NoMemory> {
+    fn add_paths(&mut self, near: &mut Near<'a>, first: u32, last: &Last) -> Result<(), NoMemory> {
+        near.learn(first)?;
         if self.length > 2 {
             return self.add_threes(near, first, last);
         }
-        if is_set(last.is_before.as_slice(), first) {
-            self.add_ends(near, &[first], first, last.places.as_slice())?;
+        if last.before.has(first) {
+            self.add_ends(near, &[first], first, last)?;
         }
         Ok(())
     }
 
-    /// Adds the paths that begin with one, and gives what is known of those that may be the last.
+    /// Adds the paths that begin with one. Which are before those that may be its last ones it takes from
+    /// the known ones, or adds it there.
     fn add_from(
         &mut self,
         near: &mut Near<'a>,
         reads: &[MissedRead],
-        beside: &[u32],
         first: u32,
-        known: Last,
-    ) -> Result<Last, NoMemory> {
+        known: &mut Vec<Last>,
+    ) -> Result<(), NoMemory> {
         if self.is_full() {
-            return Ok(known);
+            return Ok(());
         }
-        let places = match near.at(first) {
-            Some(member) => last_after(self.alloc, reads, beside, member)?,
-            None => Vec::new(self.alloc),
+        let ends = match near.at(first) {
+            Some(member) => last_after(self.alloc, near, reads, member)?,
+            None => None,
         };
-        if places.is_empty() {
-            return Ok(known);
+        match ends {
+            Some(ends) => {
+                let at = place_of(self.alloc, near, self.pivot, known, ends)?;
+                match known.get(at) {
+                    Some(last) => self.add_paths(near, first, last),
+                    None => Ok(()),
+                }
+            }
+            None => Ok(()),
         }
-        let last = last_with(self.alloc, near, known, places)?;
-        near.learn(first)?;
-        self.add_paths(near, first, &last)?;
-        Ok(last)
     }
 }
 
@@ -308,7 +294,7 @@ fn candidates_around<'a>(
     length: usize,
     most: usize,
 ) -> Result<Vec<Candidate<'a>>, NoMemory> {
-    let beside = beside(alloc, near, pivot, near.conflicting_of(place))?;
+    let beside = beside(alloc, near, pivot, place)?;
     let reads = missed_reads(alloc, near, beside.as_slice(), pivot)?;
     let mut search = Search {
         alloc,
@@ -317,26 +303,28 @@ fn candidates_around<'a>(
         most,
         found: Vec::new(alloc),
     };
-    let mut last = Last {
-        places: Vec::new(alloc),
-        is_before: Vec::new(alloc),
-    };
+    let mut known = Vec::new(alloc);
     for first in &beside {
-        last = search.add_from(near, reads.as_slice(), beside.as_slice(), *first, last)?;
+        search.add_from(near, reads.as_slice(), *first, &mut known)?;
     }
     Ok(search.found)
 }
 
-/// What is to be known of those that may be the last, where it isn't known already.
-fn last_with(
+/// The place of these ends among the known ones. Where they aren't known yet, finds those before them and
+/// adds both.
+fn place_of(
     alloc: Global,
     near: &mut Near,
-    known: Last,
-    places: Vec<u32>,
-) -> Result<Last, NoMemory> {
-    if known.places.as_slice() == places.as_slice() {
-        return Ok(known);
+    pivot: &Member,
+    known: &mut Vec<Last>,
+    ends: Places,
+) -> Result<usize, NoMemory> {
+    match known.iter().position(|last| last.ends.is_same(&ends)) {
+        Some(at) => Ok(at),
+        None => {
+            let before = before(alloc, near, pivot, &ends)?;
+            known.push(Last { ends, before })?;
+            Ok(known.len() - 1)
+        }
     }
-    let is_before = before(alloc, near, places.as_slice())?;
-    Ok(Last { places, is_before })
 }

@@ -362,8 +362,9 @@ fn first_longer<'a>(
 /// transaction 256 are tried, then as many with two and with three.
 ///
 /// Costs for each transaction that may miss a change, until 256 pairs are found, and for each that
-/// conflicts with a pivot, or with one of those beside it, time in its accesses times all others, once.
-/// Takes memory for the database, for the numbers of those with which such transactions conflict, and
+/// conflicts with a pivot, or with one of those beside it, time in its accesses times all others, once;
+/// and for a pivot and one whose changes it may miss a step for each 64 transactions.
+/// Takes memory for the database, for a bit for each two of which it is known whether they conflict, and
 /// for a run that is tried for its rows. Carrying one out costs what its transactions cost on the
 /// database; comparing it with all orders some sixty times as much at most.
 pub fn find_counterexample<'a>(

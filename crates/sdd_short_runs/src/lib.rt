@@ -15,5 +15,6 @@ mod finding;
 mod near;
 mod orders;
 mod pairs;
+mod places;
 
 pub use finding::{ShortRun, find_counterexample};

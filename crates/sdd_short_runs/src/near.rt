@@ -1,6 +1,7 @@
 //! Which transactions of a workload conflict.
 ghost use Rattle.std.specs.Prelude.{◌≡◌, IfOk};
 
+use crate::places::Places;
 use sdd_lang::NoMemory;
 use sdd_robust::{Changes, Member, are_apart, conflict};
 use std::alloc::Global;
@@ -12,12 +13,12 @@ pub(crate) struct Near<'a> {
     alloc: Global,
     pub all: &'a [Member],
     pub changes: Changes<'a>,
-    /// Of each those with which it conflicts, ascending; empty until it is asked for.
-    conflicting: Vec<Vec<u32>>,
+    /// Of each those with which it conflicts; None until it is asked for.
+    conflicting: Vec<Option<Places>>,
 }
 
 /// Whether the transactions conflict.
-pub(crate) fn do_conflict(a: &Member, b: &Member) -> bool {
+fn do_conflict(a: &Member, b: &Member) -> bool {
     conflict(a.accesses.as_slice(), b.accesses.as_slice())
 }
 
@@ -27,12 +28,12 @@ pub(crate) fn may_run_beside(pivot: &Member, other: &Member) -> bool {
 }
 
 /// The places of those with which one conflicts.
-fn conflicting_with(alloc: Global, all: &[Member], one: &Member) -> Result<Vec<u32>, NoMemory> {
-    let mut places = Vec::new(alloc);
+fn conflicting_with(alloc: Global, all: &[Member], one: &Member) -> Result<Places, NoMemory> {
+    let mut places = Places::new(alloc, all.len())?;
     let mut place: u32 = 0;
     for other in all {
         if do_conflict(one, other) {
-            places.push(place)?;
+            places.add(place);
         }
         place = place.saturating_add(1);
     }
@@ -45,7 +46,7 @@ impl<'a> Near<'a> {
     {
         let mut conflicting = Vec::with_capacity(alloc, all.len())?;
         for _ in 0..all.len() {
-            conflicting.push(Vec::new(alloc))?;
+            conflicting.push(None)?;
         }
         let changes = Changes::of(alloc, all)?;
         Ok(Near {
@@ -73,17 +74,26 @@ impl<'a> Near<'a> {
         if at >= self.all.len() || at >= self.conflicting.len() {
             return Ok(());
         }
-        if self.conflicting[at].is_empty() {
-            self.conflicting[at] = conflicting_with(self.alloc, self.all, &self.all[at])?;
+        if self.conflicting[at].is_none() {
+            self.conflicting[at] = Some(conflicting_with(self.alloc, self.all, &self.all[at])?);
         }
         Ok(())
     }
 
-    /// Those with which one conflicts, ascending, where that is known.
-    pub fn conflicting_of(&self, place: u32) -> &[u32] {
+    /// Those with which one conflicts, where that is known.
+    pub fn conflicting_of(&self, place: u32) -> Option<&Places> {
         match self.conflicting.get(place as usize) {
-            Some(places) => places.as_slice(),
-            None => &[],
+            Some(Some(places)) => Some(places),
+            _ => None,
+        }
+    }
+
+    /// Those of a set with which one conflicts, ascending; none where that isn't known. Costs a step for
+    /// each word of the set.
+    pub fn conflicting_among(&self, place: u32, others: &Places) -> Result<Vec<u32>, NoMemory> {
+        match self.conflicting_of(place) {
+            Some(places) => places.common(self.alloc, others),
+            None => Ok(Vec::new(self.alloc)),
         }
     }
 }
