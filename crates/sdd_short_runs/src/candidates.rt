@@ -96,7 +96,7 @@ fn missing_by(
     Ok(missing)
 }
 
-/// The reads of the pivot by which some may miss its changes.
+/// The reads of the pivot by which it may miss a change, where some may then miss its changes.
 fn missed_reads<'a>(
     alloc: Global,
     near: &Near,
@@ -105,7 +105,7 @@ fn missed_reads<'a>(
 ) -> Result<Vec<MissedRead<'a>>, NoMemory> {
     let mut reads = Vec::new(alloc);
     for read in pivot.accesses.as_slice() {
-        if read.reads {
+        if near.changes.misses_by(pivot.accesses.as_slice(), read) {
             let missing = missing_by(alloc, near, beside, pivot, read)?;
             if !missing.is_empty() {
                 reads.push(MissedRead { read, missing })?;
