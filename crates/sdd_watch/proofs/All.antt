@@ -129,13 +129,13 @@ pub use Rattle.sdd_run.specs.world.declared.world.World.{World}
 pub use Rattle.sdd_watch.specs.Awaiting.{behind, number_for, purpose_of, purposed, purposed_above, up_to, waiting_on}
 pub use Rattle.sdd_watch.specs.Happens.{applied_by, applied_in, arrived_by, arrived_of, changes_applied, changes_of, committed_by, committed_in, concerns, found_by, happened_at, have_moved, if_in_round, is_of_item, is_of_queue, is_reached, last_event, lost_by, place_in, place_of_first, report_row, round_at, round_in, rounds, row_by, row_left, rows_of, scheduled_at, something_if, states_of, taken, takes_part, with_row}
 pub use Rattle.sdd_watch.specs.Keeping.{IsLineInOrder, active_of, head_in, question_by, questions_in}
-pub use Rattle.sdd_watch.specs.Looking.{ArePipesSeen, AreSeen, advanced, all_waiting, messages_in, numbers_for, queue_in, queue_of, says, says_one, seen_with}
-pub use Rattle.sdd_watch.specs.Moments.{all_pipes, at_event, came, link_moment, moment_of, number_through, passed_to, pipe_moment, pipes_at_module, queue_moment, queues_at, queues_of, source, time_passed}
+pub use Rattle.sdd_watch.specs.Looking.{AreAside, ArePipesSeen, AreSeen, advanced, all_waiting, looks, messages_in, numbers_for, queue_in, queue_of, queues_if, says, says_one, seen_with}
+pub use Rattle.sdd_watch.specs.Moments.{all_pipes, at_event, came, link_moment, moment_of, number_through, passed_to, pipe_moment, pipes_at_module, queue_moment, queues_at, queues_from, queues_of, source, time_passed}
 pub use Rattle.sdd_watch.specs.Reaching.{given_to, is_between, is_touched, may_act, may_change_from, reach_of, reach_of_delivery}
 pub use Rattle.sdd_watch.specs.States.{actives, head_by, phase_by, questions_to, report_head, reported_active, reported_attempt, reported_dm, reported_tm, says_applied, state_of, unapplied_of}
 pub use Rattle.sdd_watch.specs.ScheduleSoFar.{IsReported, IsTextOf, Tells, TellsBetween, TellsRound, TellsSettled}
 pub use Rattle.sdd_watch.specs.Text.{IsInsideOf, change, inside_text, line_of}
-pub use Rattle.sdd_watch.specs.Watching.{AreCommits, AreDones, IsBetween, IsMark, IsOver, IsTellable, IsToTell, IsTurn, Knows, Watches, all_sites, arrived, arrived_on, changed_links, changed_pipes, foresee_act, foresee_take, foreseen_by, handed_over, is_changed_link, is_changed_pipe, is_done_at, is_on, is_still_link, is_still_pipe, is_taken, left_between, left_of, link_after, link_before, links_from, pipe_after, pipe_before, seen_between, taken_at, watched_link, watched_links, watched_pipe, watched_pipes}
+pub use Rattle.sdd_watch.specs.Watching.{AreCommits, AreDones, IsBetween, IsMark, IsOver, IsTellable, IsToTell, IsTurn, Knows, Watches, all_sites, arrived, arrived_on, changed_links, changed_pipes, foresee_act, foresee_take, foreseen_by, handed_over, is_changed_link, is_changed_pipe, is_done_at, is_on, is_still_link, is_still_pipe, is_taken, left_between, left_of, link_after, link_before, links_from, pipe_after, pipe_before, queues_by, seen_between, taken_at, watched_link, watched_links, watched_pipe, watched_pipes}
 pub use Rattle.sdd_watch.specs.declared.both.Both.{Both}
 pub use Rattle.sdd_watch.specs.declared.commits.Commits.{Commits}
 pub use Rattle.sdd_watch.specs.declared.dones.Dones.{Dones}

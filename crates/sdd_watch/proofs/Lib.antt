@@ -53,4 +53,5 @@ mod LinksKept
 mod ModulesVisited
 mod PipesKept
 mod QueuesKept
+mod QueuesLooked
 mod Reached

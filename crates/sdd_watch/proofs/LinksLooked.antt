@@ -8,7 +8,7 @@ use Rattle.sdd_watch.proofs.Visited.{PlaceAt, all_changed, changed_to, filtered_
 -- one link
 
 -- by the event that is carried out
-reach_reported : (g : Input) (old new : Log) (event : Event) (found : Found) (r : Reach) → event ≡ last_event new → found ≡ found_by event old new
+pub reach_reported : (g : Input) (old new : Log) (event : Event) (found : Found) (r : Reach) → event ≡ last_event new → found ≡ found_by event old new
     → r ≡ reach_of g new event found → r ≡ reach_after g old new new
 reach_reported g old new event found r e f is =
     is ∙ ap (reach_of g new event) f ∙ ap (λ x. reach_of g new x (found_by x old new)) e

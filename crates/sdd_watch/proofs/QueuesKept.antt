@@ -1,10 +1,11 @@
--- Where no transaction enters a queue or leaves one, all queues stay as they are.
-use Rattle.sdd_watch.proofs.All.{Act, Bool, ClassNo, Commit, Did, Does, Entry, Event, Hand, Happened, History, Input, IsBetween, List, Log, Mark, Notes, QueueDelta, QueueMoment, Queued, Rec, Records, Redeclared, Redeclares, Round, Sends, Setting, Site, Some, Start, Submission, Submitted, T, D, U, Tick, Ticked, TxnNo, [], ap, append-nil, append_assoc, arith, changes, class_no, cond, drop, drop-append-le, drop_all, eq-eqb, false, flat_map, have_moved, history, if◌then◌else◌, is_empty, is_of_queue, length, list_any, list_any-append, local_of, map, map-map, marks, numbers_to, position, position_from, position_from-zero, queue_between, queue_in_log, queue_moment, queues_at, queues_of, refl, runs, same_site, setting_of, subst, sym, tm_no, tried, true, txn_no, txn_of, unwrap_or, with_submit, ℕ, ◌&&◌, ◌++◌, ◌+◌, ◌-◌, ◌==◌, ◌||◌, ◌∙◌, ◌∷◌, ◌≡◌, ◌≤◌}
+-- Where no transaction enters a queue or leaves one, all queues stay as they are, and those of a site that doesn't act stay anyway.
+use Rattle.sdd_watch.proofs.All.{Act, All, All-get_or, All-head, All-tail, AreAside, Bool, IsGood, IsMark, IsSiteOf, Reach, all_sites, flat_map-append, length-map, looks, may_act, queues_from, queues_if, ClassNo, Commit, Did, Does, Entry, Hand, Happened, History, Input, IsBetween, List, Log, Mark, Notes, QueueDelta, QueueMoment, Queued, Rec, Records, Redeclares, Sends, Setting, Site, Some, Start, Submitted, T, D, U, Tick, Ticked, TxnNo, [], ap, append-nil, append_assoc, arith, changes, class_no, cond, drop, drop-append-le, drop_all, eq-eqb, false, flat_map, have_moved, history, if◌then◌else◌, is_empty, is_of_queue, length, list_any, list_any-append, local_of, map, marks, numbers_to, position, position_from, position_from-zero, queue_between, queue_in_log, queue_moment, queues_at, queues_of, refl, runs, same_site, setting_of, subst, sym, tried, true, txn_of, unwrap_or, ℕ, ◌&&◌, ◌++◌, ◌+◌, ◌-◌, ◌==◌, ◌||◌, ◌∙◌, ◌∷◌, ◌≡◌, ◌<◌, ◌≤◌, get_or}
 use Rattle.sdd_obligations.specs.All.{Handed}
 use Rattle.sdd_watch.proofs.Between.{joined_more}
 use Rattle.sdd_watch.proofs.Flights.{length_joined}
 use Rattle.sdd_watch.proofs.Recorded.{ends}
-use Rattle.sdd_watch.proofs.Reached.{neither}
+use Rattle.sdd_watch.proofs.Happening.{sites_there}
+use Rattle.sdd_watch.proofs.Reached.{aside_log, neither, reach_after}
 use Rattle.sdd_inside.specs.Differences.{came, gone, is_first}
 use Rattle.sdd_obligations.specs.site_module.SiteLog as site
 
@@ -108,23 +109,41 @@ each_same : {A B : Type 0} (f h : A → B) (xs : List A) → ((x : A) → f x �
 each_same f h [] e = refl
 each_same f h (x ∷ xs) e = (λ i. e x i ∷ each_same f h xs e i)
 
-all_same : {A B : Type 0} (f h : A → List B) (xs : List A) → ((x : A) → f x ≡ h x) → flat_map f xs ≡ flat_map h xs
-all_same f h [] e = refl
-all_same f h (x ∷ xs) e = (λ i. e x i ++ all_same f h xs e i)
+queues_stay : (g : Input) (at : Site) (more old : Log) → NoneMoves more → queues_from g (more ++ old) at ≡ queues_from g old at
+queues_stay g U more old h = ap (λ q. q ∷ []) (queue_stays g U 0 more old h)
+queues_stay g (T t) more old h =
+    each_same (queue_moment g (more ++ old) (T t)) (queue_moment g old (T t)) (runs (setting_of g (T t))) (λ c. queue_stays g (T t) c more old h)
+queues_stay g (D d) more old h = refl
 
-queues_stay : (g : Input) (more old : Log) → NoneMoves more → queues_of g (more ++ old) ≡ queues_of g old
-queues_stay g more old h =
-    (λ i. queue_stays g U 0 more old h i
-    ∷ all_same (queues_at g (more ++ old)) (queues_at g old) (numbers_to g.catalogue.tms)
-    (λ t. each_same (queue_moment g (more ++ old) (T (tm_no t))) (queue_moment g old (T (tm_no t))) (runs (setting_of g (T (tm_no t))))
-    (λ c. queue_stays g (T (tm_no t)) c more old h)) i)
-
-pub same_queues : (g : Input) (old new : Log) → IsBetween g old new → have_moved old new ≡ false → queues_of g new ≡ queues_of g old
-same_queues g old new b e =
+same_queues : (g : Input) (old new : Log) (at : Site) → IsBetween g old new → have_moved old new ≡ false → queues_from g new at ≡ queues_from g old at
+same_queues g old new at b e =
     let is : new ≡ (b.more ++ b.mark ∷ []) ++ old = b.parts ∙ joined_more b.more b.mark old in
-    ap (queues_of g) is
-    ∙ queues_stay g (b.more ++ b.mark ∷ []) old
+    ap (λ log. queues_from g log at) is
+    ∙ queues_stay g at (b.more ++ b.mark ∷ []) old
     (none_moves (b.more ++ b.mark ∷ []) old (ap (λ l. list_any is_of_queue (drop (length (history old)) (history l))) (sym is) ∙ e))
+
+-- at a site that doesn't act
+
+same_log : (g : Input) (at : Site) (old new : Log) → local_of g at new ≡ local_of g at old → queues_from g new at ≡ queues_from g old at
+same_log g U old new e = ap (λ l. queue_with 0 (numbers (setting_of g U) 0 l) ∷ []) e
+same_log g (T t) old new e = ap (λ l. map (λ c. queue_with c (numbers (setting_of g (T t)) c l)) (runs (setting_of g (T t)))) e
+same_log g (D d) old new e = refl
+
+marks_move_none : (mark : Entry) → IsMark mark → NoneMoves (mark ∷ [])
+marks_move_none (Mark e) h = (refl, tt)
+marks_move_none (Redeclares t) h = (refl, tt)
+marks_move_none _ h = absurd h
+
+aside_queues : (g : Input) (old new : Log) (at : Site) → IsGood g → IsBetween g old new → IsSiteOf g at → may_act (reach_after g old new new) at ≡ false
+    → queues_from g new at ≡ queues_from g old at
+aside_queues g old new at good b here e =
+    same_log g at (b.mark ∷ old) new (aside_log g old new good b at here e) ∙ queues_stay g at (b.mark ∷ []) old (marks_move_none b.mark b.is_mark)
+
+pub are_aside : (g : Input) (old new : Log) (moved : Bool) (reach : Reach) → IsGood g → IsBetween g old new → moved ≡ have_moved old new
+    → reach ≡ reach_after g old new new → AreAside g old new moved reach
+are_aside g old new true reach good b moves is =
+    λ at here e. aside_queues g old new at good b here (ap (λ r. may_act r at) (sym is) ∙ e)
+are_aside g old new false reach good b moves is = λ at here e. same_queues g old new at b (sym moves)
 
 -- of which nothing is reported then
 
@@ -152,14 +171,72 @@ queues_quiet : (h : Happened) (qs : List QueueMoment) → changes (queue_between
 queues_quiet h [] = refl
 queues_quiet h (q ∷ qs) = (λ i. queue_quiet h q i ++ queues_quiet h qs i)
 
--- so they may be left out
-pub left_out : (h : Happened) (moved : Bool) (before after : List QueueMoment) → (moved ≡ false → after ≡ before)
-    → changes (queue_between h) (cond moved before []) (cond moved after []) ≡ changes (queue_between h) before after
-left_out h true before after same = refl
-left_out h false before after same = sym (ap (changes (queue_between h) before) (same refl) ∙ queues_quiet h before)
+-- so those of the sites that aren't looked at may be left out
 
--- and those that are kept are those after the event
-pub queues_kept : (moved : Bool) (before after found left : List QueueMoment) → found ≡ cond moved after [] → left ≡ cond moved [] before
-    → (moved ≡ false → after ≡ before) → cond moved found left ≡ after
-queues_kept true before after found left f l same = f
-queues_kept false before after found left f l same = l ∙ sym (same refl)
+changes_join : {A B : Type 0} (f : A → A → List B) (xs ys us vs : List A) → length xs ≡ length us
+    → changes f (xs ++ ys) (us ++ vs) ≡ changes f xs us ++ changes f ys vs
+changes_join f [] ys [] vs e = refl
+changes_join f [] ys (u ∷ us) vs e = absurd (omega (arith, e))
+changes_join f (x ∷ xs) ys [] vs e = absurd (omega (arith, e))
+changes_join f (x ∷ xs) ys (u ∷ us) vs e =
+    ap (λ r. f x u ++ r) (changes_join f xs ys us vs (omega (arith, e))) ∙ sym (append_assoc (f x u) (changes f xs us) (changes f ys vs))
+
+as_many_queues : (g : Input) (old new : Log) (at : Site) → length (queues_from g old at) ≡ length (queues_from g new at)
+as_many_queues g old new U = refl
+as_many_queues g old new (T t) =
+    length-map (runs (setting_of g (T t))) (queue_moment g old (T t)) ∙ sym (length-map (runs (setting_of g (T t))) (queue_moment g new (T t)))
+as_many_queues g old new (D d) = refl
+
+one_left_out : (g : Input) (old new : Log) (h : Happened) (at : Site) (b : Bool) (xs ys us vs : List QueueMoment)
+    → (b ≡ false → queues_from g new at ≡ queues_from g old at) → changes (queue_between h) xs us ≡ changes (queue_between h) ys vs
+    → changes (queue_between h) ((if b then queues_from g old at else []) ++ xs) ((if b then queues_from g new at else []) ++ us)
+    ≡ changes (queue_between h) (queues_from g old at ++ ys) (queues_from g new at ++ vs)
+one_left_out g old new h at true xs ys us vs same e =
+    let f = queue_between h in
+    changes_join f (queues_from g old at) xs (queues_from g new at) us (as_many_queues g old new at)
+    ∙ ap (λ r. changes f (queues_from g old at) (queues_from g new at) ++ r) e
+    ∙ sym (changes_join f (queues_from g old at) ys (queues_from g new at) vs (as_many_queues g old new at))
+one_left_out g old new h at false xs ys us vs same e =
+    let f = queue_between h in
+    e ∙ ap (λ r. r ++ changes f ys vs) (sym (ap (changes f (queues_from g old at)) (same refl) ∙ queues_quiet h (queues_from g old at)))
+    ∙ sym (changes_join f (queues_from g old at) ys (queues_from g new at) vs (as_many_queues g old new at))
+
+some_left_out : (g : Input) (old new : Log) (h : Happened) (moved : Bool) (reach : Reach) → AreAside g old new moved reach → (sites : List Site)
+    → All (IsSiteOf g) sites
+    → changes (queue_between h) (flat_map (queues_if moved reach g old) sites) (flat_map (queues_if moved reach g new) sites)
+    ≡ changes (queue_between h) (flat_map (queues_from g old) sites) (flat_map (queues_from g new) sites)
+some_left_out g old new h moved reach aside [] here = refl
+some_left_out g old new h moved reach aside (at ∷ sites) here =
+    one_left_out g old new h at (looks moved reach at) (flat_map (queues_if moved reach g old) sites) (flat_map (queues_from g old) sites)
+    (flat_map (queues_if moved reach g new) sites) (flat_map (queues_from g new) sites) (aside at (All-head (IsSiteOf g) at sites here))
+    (some_left_out g old new h moved reach aside sites (All-tail (IsSiteOf g) at sites here))
+
+-- by site they are all queues
+
+of_txn_modules : (g : Input) (log : Log) (ts : List ℕ) → flat_map (queues_from g log) (map (λ n. T (record { 0 = n })) ts) ≡ flat_map (queues_at g log) ts
+of_txn_modules g log [] = refl
+of_txn_modules g log (t ∷ ts) = ap (λ qs. queues_at g log t ++ qs) (of_txn_modules g log ts)
+
+of_data_modules : (g : Input) (log : Log) (ds : List ℕ) → flat_map (queues_from g log) (map (λ n. D (record { 0 = n })) ds) ≡ []
+of_data_modules g log [] = refl
+of_data_modules g log (d ∷ ds) = of_data_modules g log ds
+
+by_site : (g : Input) (log : Log) → flat_map (queues_from g log) (all_sites g) ≡ queues_of g log
+by_site g log =
+    let ts : List Site = map (λ n. T (record { 0 = n })) (numbers_to g.catalogue.tms) in
+    let ds : List Site = map (λ n. D (record { 0 = n })) (numbers_to g.catalogue.dms) in
+    ap (λ qs. queue_moment g log U 0 ∷ qs)
+    (flat_map-append (queues_from g log) ts ds
+    ∙ (λ i. of_txn_modules g log (numbers_to g.catalogue.tms) i ++ of_data_modules g log (numbers_to g.catalogue.dms) i)
+    ∙ append-nil (flat_map (queues_at g log) (numbers_to g.catalogue.tms)))
+
+pub left_out : (g : Input) (old new : Log) (h : Happened) (moved : Bool) (reach : Reach) → AreAside g old new moved reach
+    → changes (queue_between h) (flat_map (queues_if moved reach g old) (all_sites g)) (flat_map (queues_if moved reach g new) (all_sites g))
+    ≡ changes (queue_between h) (queues_of g old) (queues_of g new)
+left_out g old new h moved reach aside =
+    some_left_out g old new h moved reach aside (all_sites g) (sites_there g)
+    ∙ (λ i. changes (queue_between h) (by_site g old i) (by_site g new i))
+
+-- a site at a place among them
+pub site_at_place : (g : Input) (sites : List Site) (i : ℕ) (d : Site) → sites ≡ all_sites g → i < length sites → IsSiteOf g (get_or sites i d)
+site_at_place g sites i d e few = All-get_or (IsSiteOf g) sites i d few (subst (λ (xs : List Site). All (IsSiteOf g) xs) (sym e) (sites_there g))

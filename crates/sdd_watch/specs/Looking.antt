@@ -2,15 +2,18 @@
 -- For the contracts of the code: not needed to read `IsInsideOf`.
 use Rattle.std.specs.Prelude.{ℕ, ◌+◌, ◌≡◌, ◌==◌, ◌&&◌, Bool, false, if◌then◌else◌, List, [], ◌++◌, filter, filter_map, find, length, map, Option, Some, None}
 use Rattle.std.specs.List.{list_any}
-use Rattle.sdd_obligations.specs.All.{D, Input, Log, Msg, Packet, Queued, Site, U, class_no}
+use Rattle.sdd_obligations.specs.All.{D, Input, IsSiteOf, Log, Msg, Packet, Queued, Site, U, class_no}
 use Rattle.sdd_obligations.specs.attempt.Queues.{txn_of}
 use Rattle.sdd_obligations.specs.tm.State.{ClassState}
 use Rattle.sdd_inside.specs.declared.moment.LinkMoment.{LinkMoment}
 use Rattle.sdd_inside.specs.declared.moment.PipeMoment.{PipeMoment}
 use Rattle.sdd_inside.specs.declared.moment.QueueMoment.{QueueMoment}
 use Rattle.sdd_watch.specs.Awaiting.{behind, number_for, purposed_above, up_to}
+use Rattle.sdd_watch.specs.Moments.{queues_from}
+use Rattle.sdd_watch.specs.Reaching.{may_act}
 use Rattle.sdd_watch.specs.Watching.{arrived_on, is_changed_link, is_changed_pipe, is_on, link_after, link_before, pipe_after, pipe_before}
 use Rattle.sdd_watch.specs.declared.both.Both.{Both}
+use Rattle.sdd_watch.specs.declared.reach.Reach.{Reach}
 use Rattle.sdd_watch.specs.declared.waiting.Purpose.{Purpose}
 use Rattle.sdd_watch.specs.declared.waiting.Purpose.TheVariants.{Applied, Piped}
 use Rattle.sdd_watch.specs.declared.watched_link.Arrived.{Arrived}
@@ -61,6 +64,18 @@ queue_of c queue = record { class = class_no c; queue = map txn_of queue }
 
 abbrev pub queue_in : ClassState → QueueMoment
 queue_in k = queue_of k.line.class k.line.queue
+
+-- whether those of a site are looked at: where a transaction entered a queue or left one, and the site may have acted
+abbrev pub looks : Bool → Reach → Site → Bool
+looks moved reach a = moved && may_act reach a
+
+-- those of a site that are looked at
+abbrev pub queues_if : Bool → Reach → Input → Log → Site → List QueueMoment
+queues_if moved reach g log a = if looks moved reach a then queues_from g log a else []
+
+-- where they aren't looked at they stay as they were
+abbrev pub AreAside : Input → Log → Log → Bool → Reach → Type 0
+AreAside g old new moved reach = (a : Site) → IsSiteOf g a → looks moved reach a ≡ false → queues_from g new a ≡ queues_from g old a
 
 -- of the messages that were handed over on the link from a to b
 

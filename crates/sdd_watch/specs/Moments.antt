@@ -38,6 +38,12 @@ queue_moment g log at c =
 abbrev pub queues_at : Input → Log → ℕ → List QueueMoment
 queues_at g log t = map (queue_moment g log (T (tm_no t))) (runs (setting_of g (T (tm_no t))))
 
+-- those of a site: of class 0 at U, and none at a data module
+abbrev pub queues_from : Input → Log → Site → List QueueMoment
+queues_from g log U = queue_moment g log U 0 ∷ []
+queues_from g log (T t) = queues_at g log t.0
+queues_from g log (D d) = []
+
 -- that of class 0 at U, and then those of the transaction modules
 abbrev pub queues_of : Input → Log → List QueueMoment
 queues_of g log = queue_moment g log U 0 ∷ flat_map (queues_at g log) (numbers_to g.catalogue.tms)

@@ -13,12 +13,13 @@ use Rattle.sdd_inside.specs.declared.delta.Found.{Found}
 use Rattle.sdd_inside.specs.declared.delta.Taken.{Taken}
 use Rattle.sdd_inside.specs.declared.moment.LinkMoment.{LinkMoment}
 use Rattle.sdd_inside.specs.declared.moment.PipeMoment.{PipeMoment}
+use Rattle.sdd_inside.specs.declared.moment.QueueMoment.{QueueMoment}
 use Rattle.sdd_run.specs.world.Pending.{commits}
 use Rattle.sdd_run.specs.world.Represents.{Calm}
 use Rattle.sdd_run.specs.world.declared.world.World.{World}
 use Rattle.sdd_watch.specs.Awaiting.{purposed, waiting_on}
 use Rattle.sdd_watch.specs.Happens.{found_by, last_event, round_at, scheduled_at, taken}
-use Rattle.sdd_watch.specs.Moments.{all_pipes, came, handed_on, passed_to, pipes_at_module, queues_of, source}
+use Rattle.sdd_watch.specs.Moments.{all_pipes, came, handed_on, passed_to, pipes_at_module, queues_from, source}
 use Rattle.sdd_watch.specs.declared.commits.Commits.{Commits}
 use Rattle.sdd_watch.specs.declared.dones.Dones.{Dones}
 use Rattle.sdd_watch.specs.declared.foreseen.Foreseen.{Foreseen}
@@ -175,6 +176,10 @@ seen_between old new l = record { before = link_before old l; after = link_after
 abbrev pub is_on : Site → Site → Arrived → Bool
 is_on a b one = same_site one.from a && same_site one.to b
 
+-- queues, by site
+abbrev pub queues_by : Input → Log → Site → Site × List QueueMoment
+queues_by g log a = (a, queues_from g log a)
+
 -- pipes
 
 abbrev pub watched_pipe : Input → Log → ℕ × ℕ → WatchedPipe
@@ -244,7 +249,7 @@ pub record Knows (g : Input) (log : Log) (w : Watch) : Type 0 where
 pub record Watches (g : Input) (log : Log) (w : Watch) : Type 0 where
   pub sites : w.sites.items ≡ sites g.catalogue.tms g.catalogue.dms
   pub links : w.links.items ≡ map (watched_links g log) (all_sites g)
-  pub queues : w.queues.items ≡ queues_of g log
+  pub queues : w.queues.items ≡ map (queues_by g log) (all_sites g)
   pub pipes : w.pipes.items ≡ map (watched_pipes g log) (numbers_to g.catalogue.dms)
   pub records : w.records ≡ length (history log)
   pub commits : AreCommits (history log) w.commits

@@ -3,7 +3,6 @@ ghost use Rattle.std.specs.Prelude.{◌≡◌, ◌++◌, ◌∷◌, [], cond, le
 ghost use Rattle.sdd_obligations.specs.All.{Input, Log, are_linked as are_linked_by, history};
 ghost use Rattle.sdd_run.specs.world.Represents.{Calm};
 ghost use Rattle.sdd_watch.specs.Happens.{happened_at, rows_of};
-ghost use Rattle.sdd_watch.specs.Moments.{queues_of};
 ghost use Rattle.sdd_watch.specs.Text.{change};
 ghost use Rattle.sdd_watch.specs.Watching.{AreCommits, IsBetween, IsOver, IsTurn, Knows, Watches, all_sites, arrived as arrived_between, watched_link, watched_links};
 
@@ -12,7 +11,8 @@ use crate::both::Both;
 use crate::commits::Commits;
 use crate::dones::Dones;
 use crate::places::{all_sites, are_linked};
-use crate::queues::{all_queues, have_moved};
+use crate::queues::{all_queues, have_moved, look_at_queues};
+use crate::reach::reach_of;
 use crate::rows::rows_from;
 use crate::taking_part::{busy, states};
 use crate::watched_link::{Arrived, OnLinks, WatchedLink, look_at_links};
@@ -23,7 +23,6 @@ use sdd_inside::{
 use sdd_obligations::{Catalogue, Event, Listed, NoMemory, Site};
 use sdd_run::World;
 use std::alloc::Global;
-use std::mem;
 
 /// Where an event stands in the schedule.
 #[derive(Clone, Copy)]
@@ -41,7 +40,7 @@ pub(crate) struct Watch {
     alloc: Global,
     sites: Vec<Site>,
     links: Vec<AtSite<WatchedLink>>,
-    queues: Vec<QueueMoment>,
+    queues: Vec<AtSite<QueueMoment>>,
     pipes: Vec<AtSite<WatchedPipe>>,
     /// How many records were made.
     records: usize,
@@ -156,37 +155,6 @@ impl Watch {
         })
     }
 
-    /// The queues before an event, which are taken from the watch, and after it; none, where no
-    /// transaction entered a queue or left one.
-    fn queues(&mut self, world: &World<'_>, moved: bool) -> Result<Both<QueueMoment>, NoMemory>
-        requires { (g : Input) × (log : Log) × Calm world.now g log }
-        ensures before { IfOk result (λ parts.
-            parts.before.items ≡ cond moved self.old.queues.items []) }
-        ensures after { IfOk result (λ parts. (g : Input) (log : Log) → Calm world.now g log
-            → parts.after.items ≡ cond moved (queues_of g log) []) }
-        ensures kept { OnOk result (self.new.queues.items ≡ cond moved [] self.old.queues.items) }
-        ensures others { OnOk result (self.new ≡ record self.old { queues = self.new.queues }) }
-    {
-        if !moved {
-            return Ok(Both::new(self.alloc));
-        }
-        let after = all_queues(self.alloc, world)?;
-        Ok(Both {
-            before: mem::replace(&mut self.queues, Vec::new(self.alloc)),
-            after,
-        })
-    }
-
-    /// Keeps the queues after an event, where a transaction entered a queue or left one.
-    fn keep_queues(&mut self, moved: bool, queues: Listed<QueueMoment>)
-        ensures kept { self.new.queues.items ≡ cond moved queues self.old.queues.items }
-        ensures others { self.new ≡ record self.old { queues = self.new.queues } }
-    {
-        if moved {
-            self.queues = queues.into_vec();
-        }
-    }
-
     /// What an event changed that is carried out.
     pub(crate) fn look(
         &mut self,
@@ -210,12 +178,12 @@ impl Watch {
             arrived,
         } = seen;
         let moved = have_moved(world.history().as_slice(), self.records);
-        let queues = self.queues(world, moved)?;
+        let reach = reach_of(world, &turn.event, &found);
+        let queues = look_at_queues(self.alloc, world, moved, reach, &mut self.queues)?;
         let pipes = look_at_pipes(self.alloc, world, arrived.as_slice(), &mut self.pipes)?;
         let happened = self.describe_event(world, turn, found, arrived.as_slice())?;
         let (before, after) = moments(links, queues, pipes);
         let delta = difference(self.alloc, happened, &before, &after)?;
-        self.keep_queues(moved, after.queues);
         Ok(delta)
     }
 
