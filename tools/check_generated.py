@@ -16,7 +16,7 @@ import sys
 import tempfile
 
 import sdd_path  # noqa: F401
-from sdd.command import parser, start
+from sdd.command import judge, parser, start
 from sdd.model.files import bytes_of
 from sdd.programs import ROOT
 
@@ -80,10 +80,7 @@ def main():
         with concurrent.futures.ThreadPoolExecutor() as pool:
             checks = [pool.submit(check_itself, *words) for words in THEMSELVES] + [pool.submit(check_maps, room), pool.submit(check_web)]
             wrong = [line for check in checks for line in check.result()]
-    for line in wrong:
-        print(line)
-    print("generated files: %s" % ("%d differ; tools/check_generated.py --write makes them anew" % len(wrong) if wrong else "all as their scripts make them"))
-    return 1 if wrong else 0
+    return judge("generated files", wrong, "differ; tools/check_generated.py --write makes them anew", "all as their scripts make them")
 
 
 if __name__ == "__main__":

@@ -12,7 +12,7 @@ import os
 import re
 
 import sdd_path  # noqa: F401
-from sdd.command import parser, start
+from sdd.command import judge, parser, start
 from sdd.programs import ROOT
 
 CRATES = os.path.join(ROOT, "crates")
@@ -86,10 +86,7 @@ def main():
     parser(__doc__).parse_args()
     homes = Homes()
     wrong = [it for file in files() for it in missing(homes, file)]
-    for it in wrong:
-        print(it)
-    print("imports: %s" % ("%d names are not where they are taken from" % len(wrong) if wrong else "each name stands where it is taken from"))
-    return 1 if wrong else 0
+    return judge("imports", wrong, "names are not where they are taken from", "each name stands where it is taken from")
 
 
 if __name__ == "__main__":

@@ -67,6 +67,14 @@ def write_plainly():
             stream.reconfigure(encoding="utf-8", errors="backslashreplace", newline="\n")
 
 
+def judge(what, wrong, faults, none):
+    """Prints the lines that say what is wrong, and last of `what` that there are so many `faults`, or that there is none; the status."""
+    for line in wrong:
+        print(line)
+    print("%s: %s" % (what, "%d %s" % (len(wrong), faults) if wrong else none))
+    return 1 if wrong else 0
+
+
 def start(main):
     """Calls `main`, and ends with its status; what it refuses is reported in one line, and a refused file with its place."""
     name = os.path.basename(sys.argv[0])
