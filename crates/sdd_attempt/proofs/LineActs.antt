@@ -1,11 +1,7 @@
--- What the acts of an attempt leave of its line: what may start, what is left to do, and which rows serve.
-use Rattle.sdd_attempt.proofs.All.{Act, AllByRecursion, AllUpTo, Attempt, Bases, Catalogue, IsAsking, IsAskingAt, IsLineOf, IsOfHead, IsServed, IsUpTo, IsWaiting, List, Log, Msg, None, Nothing, Option, Queued, Read, Rec, Records, Sends, ServesAt, Setting, Site, Some, [], active, active_sent, and_from, arith, asks_rows, contains, eq-eqb, false, false≢true, filter, handed, is_over, is_read, length, line_step, map, not, queue, refl, send_due, sent, starts_left, submits, subst, suc, sym, tried, true, work_of, ℕ, ◌<◌, ◌==◌, ◌∙◌, ◌∷◌, ◌≡◌, ◌≤◌}
+-- What the acts of an attempt leave of its line: what may start, and which rows serve.
+use Rattle.sdd_attempt.proofs.All.{Act, AllByRecursion, AllUpTo, Attempt, Bases, Catalogue, IsAsking, IsAskingAt, IsLineOf, IsOfHead, IsServed, IsUpTo, IsWaiting, List, Log, Msg, None, Nothing, Option, Queued, Read, Rec, Records, Sends, ServesAt, Setting, Site, Some, [], active, active_sent, and_from, arith, asks_rows, contains, eq-eqb, false, false≢true, filter, handed, is_over, is_read, length, line_step, map, not, queue, refl, same_length, sent, starts_left, submits, subst, suc, sym, tried, true, ℕ, ◌==◌, ◌∙◌, ◌∷◌, ◌≡◌, ◌≤◌}
 use Rattle.sdd_attempt.proofs.QuestionsOfAttempt.{NoReads}
 use Rattle.sdd_attempt.proofs.Waiting.{fewer_committed}
-use Rattle.sdd_attempt.proofs.Uses.{same_length}
-
-pub some_is : {A : Type 0} {x y : A} → Some x ≡ Some y → x ≡ y
-some_is e = cc
 
 -- what may start
 
@@ -28,13 +24,6 @@ starts_committed a (q ∷ rest) h = let less =
 
 pub left_is_few : (o : Option Attempt) (queue : List Queued) → starts_left o queue ≤ length queue
 left_is_few o queue = grind arith
-
--- what is left to do
-
--- a message of an exchange is one less
-pub work_sent : (c : ℕ) (m : Msg) (a : Attempt) (act : Act) (queue : List Queued) → asks_rows a.ts c m ≡ true
-    → send_due a.exchange ≡ Some act → work_of (active_sent c m (Some a)) queue < work_of (Some a) queue
-work_sent c m a act queue e f = grind arith
 
 -- the messages of an act
 

@@ -1,6 +1,8 @@
--- What an answer makes of an exchange: its modules stay, what is to be sent asks for rows of the attempt, and it is over
--- only once all rows are shipped.
-use Rattle.sdd_attempt.proofs.All.{AllByRecursion, Asking, Exchange, Fetch, List, Move, Msg, None, Phase, Reduce, Row, Ship, Some, Step, Value, [], after_hand, and_parts, arith, asks_rows, awaits_ready, class_no, contains, counts_for, eq-eqb, eqb-true, false, fetches, fetches_from, fetches_use, goes_on, is_over, is_reading, is_shipping, map, move_at, ne_eqb, next_move, on_answer, phase_ends, reduces, reduces_use, refl, ships, time_at, to_all, true, with_use, without, ℕ, ◌&&◌, ◌++◌, ◌+◌, ◌==◌, ◌∷◌, ◌≡◌, ◌≢◌}
+-- What an answer makes of an exchange: what is to be sent asks for rows of the attempt, and it is over only once all rows
+-- are shipped.
+use Rattle.sdd_attempt.proofs.All.{AllByRecursion, Asking, Exchange, Fetch, List, Move, Msg, None, Phase, Reduce, Row, Ship, Some, Step, Value, [], after_hand, and_parts, arith, asks_rows, awaits_ready, class_no, contains, counts_for, eqb-true, false, fetches, fetches_from, fetches_use, goes_on, is_over, is_reading, is_shipping, map, move_at, ne_eqb, next_move, on_answer, phase_ends, reduces, reduces_use, refl, ships, time_at, to_all, true, with_use, without, ℕ, ◌++◌, ◌+◌, ◌∷◌, ◌≡◌, ◌≢◌}
+use Rattle.sdd_rules.proofs.attempt.Modules.{on_answer_modules}
+use Rattle.sdd_rules.proofs.attempt.Numbers.{own}
 
 -- a property of what comes of an exchange, by the ways in which it goes on
 
@@ -25,18 +27,6 @@ goes_keep P ts c x reduced asked shipped (q ∷ rest) done =
           fetches_keep P ts c move y (λ z e. reduced move z e) (λ d dms. asked move y d dms refl) (with_use y move.source.part)
     ]
 
--- its modules
-
-pub goes_modules : (ts c : ℕ) (x : Exchange) (qs : List Asking) (done : List Step) → (goes_on ts c x qs done).modules ≡ x.modules
-goes_modules ts c x [] done = refl
-goes_modules ts c x (q ∷ rest) done = grind (arith, goes_modules ts c x rest [])
-
-pub ends_modules : (ts c : ℕ) (x : Exchange) (p : Phase) → (phase_ends ts c x p).modules ≡ x.modules
-ends_modules ts c x p = grind (arith, goes_modules)
-
-pub on_answer_modules : (ts c : ℕ) (x : Exchange) (dms : List ℕ) → (on_answer ts c x dms).modules ≡ x.modules
-on_answer_modules ts c x dms = grind (arith, ends_modules)
-
 -- an exchange with other counts, values or rows
 
 abbrev pub with_counts : Exchange → List ((ℕ × ℕ) × ℕ) → Exchange
@@ -56,9 +46,6 @@ modules_stay ts c d m x = grind (arith, on_answer_modules)
 -- all of these messages ask for rows of the attempt of class c with this timestamp
 abbrev pub AllAsk : ℕ → ℕ → List (ℕ × Msg) → Type 0
 AllAsk ts c ms = AllByRecursion (λ m. asks_rows ts c m.1 ≡ true) ms
-
-pub own : (ts c : ℕ) → ((ts == ts) && (c == c)) ≡ true
-own ts c = rw (eq-eqb ts ts refl, eq-eqb c c refl) refl
 
 all_ask : (ts c : ℕ) (m : Msg) (dms : List ℕ) → asks_rows ts c m ≡ true → AllAsk ts c (to_all m dms)
 all_ask ts c m [] e = tt

@@ -1,8 +1,8 @@
 -- The standing of a transaction by its place in the queue.
 use Rattle.sdd_attempt.proofs.All.{Absent, Attempt, Bool, Catalogue, IsLine, List, None, Option, Running, Some, Standing, [], active_of, ap, arith, attempt_of, cond, false, filter, if◌then◌else◌, later, nat_tests, not, option_map, position, position_from, position_from-zero, queued_at, refl, standing_at, standing_by, suc, sym, true, underway, ℕ, ◌==◌, ◌∙◌, ◌∷◌, ◌≡◌}
 use Rattle.sdd_attempt.proofs.Queueing.{all_kept, itself}
-use Rattle.sdd_attempt.specs.declared.standing.Standing.TheVariants.{Queued}
-use Rattle.sdd_attempt.specs.Queues as queues
+use Rattle.sdd_rules.specs.declared.standing.Standing.TheVariants.{Queued}
+use Rattle.sdd_rules.specs.attempt.Queues as queues
 
 -- by a place, where there is one
 abbrev pub at_place : ℕ → Option Attempt → Option ℕ → Standing

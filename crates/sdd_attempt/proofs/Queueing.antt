@@ -1,10 +1,9 @@
 -- The line of a class after each step: what it keeps, and that it is what the act makes of it.
-use Rattle.sdd_attempt.proofs.All.{All-append, All-cons, All-head, All-nil, All-tail, AllByRecursion, AreAwaitedFrom, AreDistinct, Attempt, Bases, Bool, CarriesFew, Catalogue, FitsTxn, IsAwaited, IsLine, IsRunning, IsWhole, List, Msg, None, Option, Queued, Running, RunsFirst, Site, Some, Ticking, [], active_handed, active_of, after_send, ap, arith, ascending, attempt_of, begins, bound_of, clock, commit_next, cond, contains, drop, false, filter, fragments_in, get_or, handed_by, if◌then◌else◌, length, line_done, line_of, map, map-append, modules_of, nat_tests, not, queue, read_to, refl, rules, send_next, sends_of_act, slice_set, start_act, start_next, subst, suc, sym, tail_of, ticked, timestamp, tried, true, uses_of, ℕ, ◌++◌, ◌<◌, ◌==◌, ◌∙◌, ◌∷◌, ◌≡◌}
+use Rattle.sdd_attempt.proofs.All.{All-append, All-cons, All-head, All-nil, All-tail, AllByRecursion, AreAwaitedFrom, AreDistinct, Attempt, Bases, Bool, CarriesFew, Catalogue, FitsTxn, IsAwaited, IsLine, IsRunning, IsWhole, List, Msg, None, Option, Queued, Running, RunsFirst, Site, Some, Ticking, [], active_handed, active_of, after_send, ap, arith, ascending, attempt_of, begins, begins_room, bound_of, clock, commit_next, cond, contains, drop, false, few_modules, filter, fragments_in, get_or, handed_by, handed_room, if◌then◌else◌, length, line_done, line_of, map, map-append, modules_of, nat_tests, not, queue, read_to, refl, rules, same_length, send_next, sends_of_act, sent_room, slice_set, small_text, start_act, start_next, subst, suc, sym, tail_of, ticked, timestamp, tried, true, uses_of, ℕ, ◌++◌, ◌<◌, ◌==◌, ◌∙◌, ◌∷◌, ◌≡◌}
 use Rattle.sdd_attempt.proofs.Phases.{asks_stay}
-use Rattle.sdd_attempt.proofs.Uses.{few_modules, same_length, small_text}
-use Rattle.sdd_attempt.proofs.Room.{begins_room, handed_room, sent_room}
 use Rattle.sdd_module.specs.wire.declared.msg.Msg.TheVariants as msgs
 use Rattle.sdd_module.specs.protocol.declared.entry.Entry as line
+use Rattle.sdd_rules.proofs.attempt.Numbers.{other_way}
 
 abbrev number_of : Queued → ℕ
 number_of q = q.number
@@ -13,9 +12,6 @@ number_of q = q.number
 
 pub itself : (n : ℕ) → (n == n) ≡ true
 itself n = search rules
-
-pub other_way : (m n : ℕ) → (m == n) ≡ false → (n == m) ≡ false
-other_way m n e = grind (arith, nat_tests)
 
 contains_more : (ns : List ℕ) (n m : ℕ) → contains ns m ≡ false → (n == m) ≡ false → contains (ns ++ n ∷ []) m ≡ false
 contains_more [] n m e f = rw f refl

@@ -1,9 +1,9 @@
 -- The line of a class after each entry of the log of a site.
-use Rattle.sdd_attempt.proofs.All.{Act, AllByRecursion, AllUpTo, AreStamped, Attempt, Bases, Catalogue, Change, D, Did, Era, FitsAnswer, FitsTxn, Handed, IsAsking, IsAskingAt, IsLineOf, IsOfHead, List, Log, Msg, None, Option, Queued, Rec, Records, Redeclared, Sends, Setting, Site, Some, Submits, Ticked, Ticking, Txn, Use, [], active, active_after, active_sent, and_right, ap, arith, ascending, asks_rows, bound_of, clock, commit_act, cond, cond-true, contains, current_era, dm_no, effect, eq-eqb, false, filter_map, first_send, fragments_in, handed, head_of, is_for, is_read, is_some, list_all, map, module_read, modules_of, nat_tests, ne_eqb, numbers_to, or_left, or_right, queue, queue_after, read_set, read_to, reads_at, refl, send_due, sends_of_act, sent, start_act, started, submits, subst, sym, ticked, timestamp, tried, true, uses_of, write_to, ℕ, ◌&&◌, ◌++◌, ◌<◌, ◌==◌, ◌^◌, ◌∙◌, ◌∷◌, ◌≡◌, ◌≢◌}
+use Rattle.sdd_attempt.proofs.All.{Act, AllByRecursion, AllUpTo, AreStamped, Attempt, Bases, Catalogue, Change, D, Did, Era, FitsAnswer, FitsTxn, Handed, IsAsking, IsAskingAt, IsLineOf, IsOfHead, List, Log, Msg, None, Option, Queued, Rec, Records, Redeclared, Sends, Setting, Site, Some, Submits, Ticked, Ticking, Txn, Use, [], active, active_after, active_sent, and_right, arith, ascending, asks_rows, bound_of, clock, commit_act, cond, cond-true, contains, current_era, dm_no, effect, eq-eqb, false, filter_map, first_send, fragments_in, handed, head_of, is_for, is_read, is_some, list_all, map, modules_of, nat_tests, ne_eqb, numbers_to, or_left, or_right, own, queue, queue_after, read_set, read_to, reads_at, refl, send_due, sends_of_act, sent, start_act, started, submits, subst, sym, ticked, timestamp, tried, true, uses_of, write_to, ℕ, ◌&&◌, ◌++◌, ◌<◌, ◌==◌, ◌^◌, ◌∙◌, ◌∷◌, ◌≡◌, ◌≢◌}
 use Rattle.sdd_attempt.proofs.QuestionsOfAttempt.{NoReads, AreReads, asking_handed, asking_sends, asking_sent, asking_started}
 use Rattle.sdd_attempt.proofs.Waiting.{queue_did, queue_submitted, head_handed, head_submitted, head_sent, head_started}
 use Rattle.sdd_module.specs.protocol.declared.entry.Entry as line
-use Rattle.sdd_attempt.proofs.Phases.{own}
+use Rattle.sdd_rules.proofs.attempt.Modules.{modules_read}
 
 -- what is handed, given, or passes
 
@@ -123,10 +123,6 @@ module _ (cat : Catalogue) (table : List line.Entry) (c : ℕ) (q : Queued) (use
   abbrev reads_of : List ℕ → List (Site × Msg)
   reads_of dms = map (read_to cat table c q uses own p2) dms
 
-  modules_read : (dms : List ℕ) → map (λ (m : ℕ × List ℕ). m.0) (filter_map module_read (reads_of dms)) ≡ dms
-  modules_read [] = refl
-  modules_read (d ∷ dms) = ap (λ es. d ∷ es) (modules_read dms)
-
   are_reads : (all dms : List ℕ) → AllByRecursion (λ d. contains all d ≡ true) dms → AreReads (reads_of dms) all
   are_reads all [] h = tt
   are_reads all (d ∷ dms) h = ((d, refl, h.0), are_reads all dms h.1)
@@ -156,11 +152,6 @@ start_no_reads cat table c k q ts other h =
 pub start_is_up : (cat : Catalogue) (table : List line.Entry) (c : ℕ) (k : Ticking) (q : Queued)
     → AllUpTo (timestamp (ticked k 1)) (sends_of_act (start_act cat table c k q))
 start_is_up cat table c k q = grind (arith, reads_up, ticked, ascending)
-
--- the modules to which it sends READs
-pub start_modules : (cat : Catalogue) (table : List line.Entry) (c : ℕ) (k : Ticking) (q : Queued)
-    → map (λ (m : ℕ × List ℕ). m.0) (filter_map module_read (sends_of_act (start_act cat table c k q))) ≡ modules_of cat c (ascending (fragments_in (uses_of cat q.text)))
-start_modules cat table c k q = grind (arith, modules_read, ticked, ascending)
 
 ticks_on : (k : Ticking) → timestamp k < timestamp (ticked k 1)
 ticks_on k = omega arith

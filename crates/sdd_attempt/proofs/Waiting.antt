@@ -1,6 +1,7 @@
 -- The queue of a class after each entry of the log: its transactions stay different ones that fit, and the active
 -- attempt is of the first of them.
 use Rattle.sdd_attempt.proofs.All.{Act, AllByRecursion, Attempt, Bool, Catalogue, Differ, FitsTxn, IsOfHead, IsQueue, IsWaiting, List, Msg, Option, Queued, Rec, Records, Site, Some, Txn, [], active_handed, active_sent, all_kept, ap, arith, cond, contains, eq-eqb, eqb-true, false, filter, head_of, is_for, is_some, length, list_all, map, nat_tests, not, or_right, queue_after, read_set, reads_at, refl, started, submitted, subst, suc, sym, tried, true, zero, ℕ, ◌++◌, ◌<◌, ◌==◌, ◌^◌, ◌∙◌, ◌∷◌, ◌≡◌, ◌≢◌, ◌≤◌}
+use Rattle.sdd_rules.proofs.attempt.Work.{shorter}
 
 -- a try changes no number and no text
 
@@ -85,10 +86,6 @@ head_started ts sends q rest = rw (eq-eqb q.number q.number refl) refl
 -- without the one with this number
 abbrev others : ℕ → List Queued → List Queued
 others n qs = filter (λ q. not (q.number == n)) qs
-
-pub shorter : (p : Queued → Bool) (qs : List Queued) → length (filter p qs) ≤ length qs
-shorter p [] = omega arith
-shorter p (q ∷ qs) = let rest = shorter p qs in elim (p q) as (λ b. length (cond b (q ∷ filter p qs) (filter p qs)) ≤ suc (length qs)) [ true ↦ omega arith | false ↦ omega arith ]
 
 -- a Commit of the first one leaves fewer
 pub fewer_committed : (n : ℕ) (qs : List Queued) (q : Queued) → head_of qs ≡ Some q → q.number ≡ n → length (others n qs) < length qs

@@ -1,27 +1,15 @@
 -- The line of a class: its queue and its active attempt, at a site that makes its attempts.
-use Rattle.std.specs.Prelude.{ℕ, ◌≡◌, ◌≤◌, ◌==◌, Bool, true, false, if◌then◌else◌, List, [], ◌∷◌, length, map, option_map, Option, Some, None}
+use Rattle.std.specs.Prelude.{ℕ, ◌≡◌, ◌≤◌, ◌==◌, Bool, true, false, List, [], ◌∷◌, length, map, option_map, Option, Some, None}
 use Rattle.std.specs.List.{All, AllByRecursion}
-use Rattle.sdd_module.specs.All.{Act, Bases, Catalogue, D, FitsTxn, Msg, Site, Ticking, Values, contains, head_of}
+use Rattle.sdd_module.specs.All.{Act, Bases, Catalogue, FitsTxn, Msg, Site, Ticking, Values, contains, head_of}
 use Rattle.sdd_module.specs.protocol.declared.entry.Entry as line
-use Rattle.sdd_exec.specs.Serves.{Serves}
-use Rattle.sdd_attempt.specs.Acts.{start_act, commit_act}
-use Rattle.sdd_attempt.specs.Attempts.{Attempt, active_after, asks_rows, rejects}
-use Rattle.sdd_attempt.specs.Clocks.{ticked_by}
-use Rattle.sdd_attempt.specs.Exchange.{Exchange, Phase, Over, after_hand, send_due}
-use Rattle.sdd_attempt.specs.Fits.{AwaitsAt, fetches_use}
-use Rattle.sdd_attempt.specs.Phases.{awaited_in}
-use Rattle.sdd_attempt.specs.Queues.{Queued, queue_after}
-use Rattle.sdd_attempt.specs.Room.{AreAwaited, HasRoom}
-use Rattle.sdd_attempt.specs.declared.answer.Answer.{Answer}
-use Rattle.sdd_attempt.specs.declared.step.LineStep.{LineStep}
-use Rattle.sdd_attempt.specs.declared.step.LineStep.TheVariants.{Sends, Commits}
-
--- with the class and the catalogue
-pub record Line : Type 0 where
-  pub catalogue : Catalogue
-  pub class : ℕ
-  pub queue : List Queued
-  pub active : Option Attempt
+use Rattle.sdd_rules.specs.All.{Attempt, AwaitsAt, Queued, Serves, active_after, asks_rows, commit_act, fetches_use, queue_after, send_due, start_act, ticked_by}
+use Rattle.sdd_running.specs.exchange.Phases.{awaited_in}
+use Rattle.sdd_running.specs.exchange.Room.{HasRoom}
+use Rattle.sdd_running.specs.exchange.declared.answer.Answer.{Answer}
+use Rattle.sdd_running.specs.declared.step.LineStep.{LineStep}
+use Rattle.sdd_rules.specs.attempt.Line.{Line}
+use Rattle.sdd_running.specs.Running.{step_by, Running}
 
 abbrev pub no_line : Catalogue → ℕ → Line
 no_line cat c = record { catalogue = cat; class = c; queue = []; active = None }
@@ -38,12 +26,6 @@ line_done (Some act) l = line_after act l
 abbrev pub clock_done : Option Act → Ticking → Ticking
 clock_done None clock = clock
 clock_done (Some act) clock = ticked_by act clock
-
--- what an active attempt does next by itself: the next message of its exchange, or once that is over its Commit
-abbrev pub step_by : List (ℕ × Msg) → Phase → Option LineStep
-step_by [] Over = Some Commits
-step_by [] _ = None
-step_by (m ∷ ms) phase = Some Sends
 
 abbrev pub line_step : Option Attempt → Option LineStep
 line_step None = None
@@ -98,19 +80,6 @@ ServesAt cat bases None = Unit {0}
 ServesAt cat bases (Some a) = Serves cat a.text a.exchange.found (bases a.ts)
 
 -- How a site keeps a line: the active attempt is that of the first transaction in the queue.
-
-pub record Running : Type 0 where
-  pub ts : ℕ
-  pub exchange : Exchange
-
--- a message ends it, or goes to its exchange
-abbrev pub handed_by : ℕ → Site → Msg → Running → Option Running
-handed_by c (D d) m r = if rejects m r.ts c then None else Some (record r { exchange = after_hand r.ts c d.0 m r.exchange })
-handed_by c _ m r = Some r
-
-abbrev pub AreAwaitedFrom : ℕ → Site → Msg → Running → Type 0
-AreAwaitedFrom c (D d) m r = AreAwaited r.ts c d.0 m r.exchange
-AreAwaitedFrom c _ m r = Unit {0}
 
 abbrev pub attempt_of : Queued → Running → Attempt
 attempt_of q r = record { txn = q.number; attempt = q.tries; ts = r.ts; text = q.text; exchange = r.exchange }

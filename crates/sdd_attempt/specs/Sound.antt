@@ -2,12 +2,9 @@
 use Rattle.std.specs.Prelude.{ℕ, ◌<◌, ◌≤◌, ◌^◌, ◌≡◌, ◌≢◌, Bool, true, false, ◌&&◌, List, [], ◌∷◌, map, Option, Some, None, is_some}
 use Rattle.std.specs.List.{AllByRecursion, list_any, list_all}
 use Rattle.sdd_module.specs.All.{Bases, Catalogue, D, FitsTxn, Log, Msg, Read, Ready, Reduced, Reject, Rows, Setting, Site, Values, contains, dm_no, head_of, read_set, reads_at, submits, timestamp}
-use Rattle.sdd_exec.specs.Serves.{Serves}
-use Rattle.sdd_attempt.specs.Clocks.{clock}
-use Rattle.sdd_attempt.specs.Queues.{Queued, queue}
-use Rattle.sdd_attempt.specs.Exchange.{Phase, Reading, Exchange, is_over}
-use Rattle.sdd_attempt.specs.Attempts.{Attempt, asks_rows, active}
-use Rattle.sdd_attempt.specs.Fits.{sent, handed, at_site, is_read, is_verdict, AnswersRead, AwaitsAt, FitsRows, fetches_use, reduces_use}
+use Rattle.sdd_rules.specs.All.{AnswersRead, Attempt, AwaitsAt, Exchange, FitsRows, Phase, Queued, Serves, active, asks_rows, at_site, clock, fetches_use, handed, is_over, queue, reduces_use, sent}
+use Rattle.sdd_rules.specs.attempt.Exchange.{Reading}
+use Rattle.sdd_rules.specs.attempt.Fits.{is_read, is_verdict}
 
 -- the queue
 

@@ -1,14 +1,12 @@
 ghost use Rattle.std.specs.Prelude.{◌≡◌, ℕ, IfOk, OnOk};
-ghost use Rattle.sdd_exec.specs.Serves.{Serves};
+ghost use Rattle.sdd_rules.specs.All.{Serves, commit_act};
 ghost use Rattle.sdd_module.specs.All.{Bases, Database, FitsTxn, IsDatabase, effect, with_act};
-ghost use Rattle.sdd_attempt.specs.Acts.{commit_act};
 ghost use Rattle.sdd_attempt.specs.Lines.{attempt_of};
 
-use crate::queued::Queued;
-use crate::running::Running;
 use crate::writes::{Committing, send_writes};
 use sdd_exec::{Snapshot, effect};
 use sdd_module::{Catalogue, ClassNo, Draft, Effect, NoMemory, PrintedReply, Rec, Row, Txn};
+use sdd_running::{Queued, Running};
 use std::alloc::Global;
 
 /// Commits an attempt of the class: its Commit is recorded, with its WRITEs.

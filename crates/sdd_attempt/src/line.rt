@@ -1,21 +1,17 @@
 ghost use Rattle.std.specs.Prelude.{◌≡◌, ◌<◌, ◌≤◌, ◌+◌, ◌++◌, ◌∷◌, ◌^◌, ◌==◌, ◌&&◌, ℕ, [], is_none, length, map, not, option_map, position, unwrap_or, IfOk, IsTrue, OnOk, None, false};
 ghost use Rattle.sdd_module.specs.All.{Bases, FitsTxn, IsDatabase, contains, head_of, is_empty, with_due_act};
-ghost use Rattle.sdd_attempt.specs.Attempts.{active_handed};
+ghost use Rattle.sdd_rules.specs.All.{active_handed, standing_of};
 ghost use Rattle.sdd_attempt.specs.Lines.{AreTried, IsAwaited, ServesAt, awaited_by, clock_done, commit_next, head_is_untried, lacked_by, line_done, line_step, no_line, send_next, start_next, tries_of_first};
-ghost use Rattle.sdd_attempt.specs.Queues.{txn_of};
-ghost use Rattle.sdd_attempt.specs.Reads.{IsDeclared};
-ghost use Rattle.sdd_attempt.specs.Standings.{standing_at, standing_of};
+ghost use Rattle.sdd_rules.specs.attempt.Queues.{txn_of};
+ghost use Rattle.sdd_running.specs.Reads.{IsDeclared};
+ghost use Rattle.sdd_rules.specs.attempt.Standings.{standing_at};
 
-use crate::answer::Answer;
-use crate::begin::start_attempt;
 use crate::commit::commit_attempt;
-use crate::queued::Queued;
-use crate::running::Running;
-use crate::standing::Standing;
-use crate::step::LineStep;
 use sdd_module::{
     Catalogue, ClassNo, Clock, DmNo, Draft, Msg, NoMemory, Parcel, Site, Table, Ts, Txn, TxnNo,
 };
+use sdd_rules::Standing;
+use sdd_running::{Answer, LineStep, Queued, Running, start_attempt};
 use std::alloc::Global;
 use std::collections::VecDeque;
 use std::marker::Model;
@@ -35,8 +31,9 @@ pub struct Line<'a> {
 
 impl<'a> Model for Line<'a> {
     ghost use Rattle.sdd_attempt.specs.Lines as lines;
+    ghost use Rattle.sdd_rules.specs.attempt.Line as class_lines;
 
-    ghost Value = { lines.Line };
+    ghost Value = { class_lines.Line };
 
     ghost view = { λ l. lines.line_of l.catalogue.now l.class.0 l.queue.items l.running };
 

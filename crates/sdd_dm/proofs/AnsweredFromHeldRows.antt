@@ -1,6 +1,5 @@
 -- A FETCH, REDUCE or SHIP is answered from the held rows; and all messages together.
-use Rattle.sdd_dm.proofs.All.{Act, Bases, ClassNo, DatesDiffer, Did, Fetch, Frozen, Handed, HasCopies, List, Log, Msg, None, Notes, Null, Option, Reached, Read, Reduce, Reduced, Rows, Sends, Setting, Ship, Shows, Site, Some, State, Ts, Value, Values, Worked, Write, [], all_dated, all_held, answer_to, ap, arith, class_of_pipe, class_view, false, fits, frozen, frozen_handed, frozen_of, given_up, goes_through, hands, home_of, is_asked_of, length, length-update, made_nothing, made_one, nat_tests, next, notes_handed, nothing_noted, opens, reduced_at, refl, rows_held, state_handed, suc, sym, update, values_in, with_out, ℕ, ◌<◌, ◌==◌, ◌∷◌, ◌≡◌, ◌≤◌}
-use Rattle.sdd_dm.proofs.ByClass.{at_own, at_other, same_number}
+use Rattle.sdd_dm.proofs.All.{Act, Bases, ClassNo, DatesDiffer, Did, Fetch, Frozen, Handed, HasCopies, List, Log, Msg, None, Notes, Null, Option, Reached, Read, Reduce, Reduced, Rows, Sends, Setting, Ship, Shows, Site, Some, State, Ts, Value, Values, Worked, Write, [], all_dated, all_held, answer_to, ap, arith, at_other, at_own, class_of_pipe, class_view, false, fits, frozen, frozen_handed, frozen_of, given_up, goes_through, hands, home_of, is_asked_of, length, length-update, made_nothing, made_one, nat_tests, next, notes_handed, nothing_noted, opens, reduced_at, refl, rows_held, same_number, state_handed, suc, sym, update, values_in, with_out, ℕ, ◌<◌, ◌==◌, ◌∷◌, ◌≡◌, ◌≤◌}
 use Rattle.sdd_dm.proofs.Dates.{new_differ}
 use Rattle.sdd_dm.proofs.Messages.{is_answered, opened, put_shown, read_worked}
 use Rattle.sdd_dm.proofs.Scans.{from}

@@ -1,7 +1,7 @@
 -- A WRITE that is applied: its changes stand among those of its class, wherever they came in time.
-use Rattle.sdd_dm.proofs.All.{AreSame, Bool, Change, Contains, Contains-append_cases, Contains-append_left, Contains-append_right, Contains-cases, Contains-here, Contains-later, Contains-nil, Dated, DatesDiffer, Did, EachHanded, Handed, List, Log, Msg, None, Option, Rec, Records, Setting, Site, Some, [], all_dated, applied, arith, changes_in, classes_of, dated, false, first_rows, flat_map, head, if◌then◌else◌, inl, inr, is_apply, length, nat_tests, pipe, range_with_len, refl, subst, suc, sym, true, written, zero, ℕ, ◌&&◌, ◌++◌, ◌+◌, ◌<◌, ◌==◌, ◌∷◌, ◌≡◌, ◌≤◌, ◌⊎◌}
-use Rattle.sdd_dm.proofs.ByClass.{same_number, number_is}
+use Rattle.sdd_dm.proofs.All.{AreSame, Bool, Change, Contains, Contains-append_cases, Contains-append_left, Contains-append_right, Contains-cases, Contains-here, Contains-later, Contains-nil, Dated, DatesDiffer, Did, EachHanded, Handed, List, Log, Msg, None, Option, Rec, Records, Setting, Site, Some, [], all_dated, applied, arith, changes_in, classes_of, dated, false, first_rows, flat_map, head, if◌then◌else◌, inl, inr, is_apply, length, nat_tests, number_is, pipe, range_with_len, refl, same_number, subst, suc, sym, true, written, zero, ℕ, ◌&&◌, ◌++◌, ◌+◌, ◌<◌, ◌==◌, ◌∷◌, ◌≡◌, ◌≤◌, ◌⊎◌}
 use Rattle.sdd_dm.proofs.Handed.{head_handed}
+use Rattle.sdd_rules.proofs.dm.Acted.{acted_more}
 
 -- members of what is made over the classes
 
@@ -75,10 +75,6 @@ applied_differ s log c d =
     ]) d
 
 -- an Apply adds the changes of the head of its pipe
-
-pub acted_more : (b : Bool) (xs ys : Dated) (x : ℕ × Change) → Contains xs x → Contains (if b then xs ++ ys else xs) x
-acted_more true xs ys x h = Contains-append_left xs ys x h
-acted_more false xs ys x h = h
 
 more_dated : (s : Setting) (log : Log) (c : ℕ) (r : Rec) (sends : List (Site × Msg)) (x : ℕ × Change) → c ≤ length s.catalogue.classes
     → is_apply r ≡ true

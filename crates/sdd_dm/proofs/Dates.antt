@@ -1,6 +1,5 @@
 -- The changes of a WRITE that is handed: no two of them change one item, and no other change has its time.
-use Rattle.sdd_dm.proofs.All.{AllByRecursion, Bool, Change, Contains, Contains-append_cases, Contains-append_left, Contains-append_right, Contains-cases, Contains-here, Contains-later, Contains-nil, Dated, DatesDiffer, Equal, Handed, IsDistinct, IsDistinct-head, IsDistinct-tail, Item, List, Log, Msg, Setting, Some, Write, [], all_dated, ap, arith, changes_in, contains, database_of, false, first_row, first_rows, inl, inr, int_cmp, is_eq, is_own, item_cmp, map, nat_cmp, nat_tests, ordering_then, refl, sym, true, with_time, write_time_of, write_times, written, ℕ, ℤ, ◌++◌, ◌<◌, ◌∙◌, ◌∷◌, ◌≡◌}
-use Rattle.sdd_dm.proofs.ByClass.{same_number}
+use Rattle.sdd_dm.proofs.All.{AllByRecursion, Bool, Change, Contains, Contains-append_cases, Contains-append_left, Contains-append_right, Contains-cases, Contains-here, Contains-later, Contains-nil, Dated, DatesDiffer, Equal, Handed, IsDistinct, IsDistinct-head, IsDistinct-tail, Item, List, Log, Msg, Setting, Some, Write, [], all_dated, ap, arith, changes_in, contains, database_of, false, first_row, first_rows, inl, inr, int_cmp, is_eq, is_own, item_cmp, map, nat_cmp, nat_tests, ordering_then, refl, same_number, sym, true, with_time, write_time_of, write_times, written, ℕ, ℤ, ◌++◌, ◌<◌, ◌∙◌, ◌∷◌, ◌≡◌}
 
 -- members of a list that a function makes
 

@@ -1,6 +1,5 @@
 -- A module to which nothing was handed represents the empty log.
-use Rattle.sdd_dm.proofs.All.{All-contains, Catalogue, Contains, Contains-cases, Contains-nil, D, Database, DatesDiffer, DmNo, IsDatabase, IsDistinct, IsDistinct-from_sorted, IsDistinct-head, IsDistinct-tail, IsEntry, IsSoundCatalogue, IsTrue, Item, List, None, RelNo, Represent, Row, Setting, Shows, State, [], ap, append-nil, arith, classes_of, database_of, dated, empty_digest, empty_pipe, eq_by_cmp, false, first_row, first_rows, first_step, flat_map, fragment_at, fragment_holds, fragment_of, frozen, has_copy, home_of, inl, inr, is_empty_digest, is_here, item_cmp, key_in_range, keys_of, length, length-replicate, map, nat_tests, refl, replicate, slice_index_or, subst, suc, sym, true, waits, ℕ, ◌++◌, ◌+◌, ◌∙◌, ◌∷◌, ◌≡◌}
-use Rattle.sdd_dm.proofs.ByClass.{first_none}
+use Rattle.sdd_dm.proofs.All.{All-contains, Catalogue, Contains, Contains-cases, Contains-nil, D, Database, DatesDiffer, DmNo, IsDatabase, IsDistinct, IsDistinct-from_sorted, IsDistinct-head, IsDistinct-tail, IsEntry, IsSoundCatalogue, IsTrue, Item, List, None, RelNo, Represent, Row, Setting, Shows, State, [], ap, append-nil, arith, classes_of, database_of, dated, empty_digest, empty_pipe, eq_by_cmp, false, first_none, first_row, first_rows, first_step, flat_map, fragment_at, fragment_holds, fragment_of, frozen, has_copy, home_of, inl, inr, is_empty_digest, is_here, item_cmp, key_in_range, keys_of, length, length-replicate, map, nat_tests, refl, replicate, slice_index_or, subst, suc, sym, true, waits, ℕ, ◌++◌, ◌+◌, ◌∙◌, ◌∷◌, ◌≡◌}
 use Rattle.sdd_dm.proofs.Dates.{from_map, each_map, own_item}
 
 -- lists of one thing

@@ -1,6 +1,5 @@
 -- What the first head may do is what is due next, where nothing is left to answer.
-use Rattle.sdd_dm.proofs.All.{Act, Bool, ClassNo, Digest, Home, List, Log, Msg, None, Option, Setting, Shows, Some, State, Step, act_by, act_where, ap, arith, class_view, due, first_some, first_step, head, head_at, head_due, length, nat_tests, of_class, or_else, pipe, range_with_len, refl, step_at, step_by, suc, sym, view_of, zero, ℕ, ◌+◌, ◌<◌, ◌∙◌, ◌≡◌, ◌≤◌}
-use Rattle.sdd_dm.proofs.ByClass.{first_map, first_none, first_range, found_first}
+use Rattle.sdd_dm.proofs.All.{Act, Bool, ClassNo, Digest, Home, List, Log, Msg, None, Option, Setting, Shows, Some, State, Step, act_by, act_where, ap, arith, class_view, due, first_map, first_none, first_range, first_some, first_step, found_first, head, head_at, head_due, length, nat_tests, of_class, or_else, pipe, range_with_len, refl, step_at, step_by, suc, sym, view_of, zero, ℕ, ◌+◌, ◌<◌, ◌∙◌, ◌≡◌, ◌≤◌}
 use Rattle.sdd_dm.proofs.Shown.{step_is, head_shown}
 
 -- where nothing is left to answer, the heads are next

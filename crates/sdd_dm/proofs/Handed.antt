@@ -1,6 +1,5 @@
 -- What stands in a pipe was handed.
-use Rattle.sdd_dm.proofs.All.{EachHanded, List, Log, Msg, Some, [], head, head_of, pipe, rules, subst, sym, ℕ, ◌++◌, ◌∷◌, ◌≡◌}
-use Rattle.sdd_dm.proofs.Prefix.{all_handed, all_there}
+use Rattle.sdd_dm.proofs.All.{EachHanded, List, Log, Msg, Some, [], all_handed, all_there, head, head_of, pipe, rules, subst, sym, ℕ, ◌++◌, ◌∷◌, ◌≡◌}
 
 -- P holds of each of some messages
 abbrev pub Every : (Msg → Type 0) → List Msg → Type 0

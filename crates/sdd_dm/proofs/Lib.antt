@@ -3,7 +3,6 @@ pub mod Applied
 pub mod AnsweredFromHeldRows
 pub mod Awaited
 pub mod Beginning
-pub mod ByClass
 pub mod Dates
 pub mod First
 pub mod FirstDue
@@ -13,12 +12,10 @@ pub mod LowestClass
 pub mod Messages
 pub mod OneFragment
 pub mod OwnRows
-pub mod Prefix
 pub mod Ranks
 mod Results
 pub mod Scans
 pub mod Shown
 pub mod Stepped
 pub mod Taking
-pub mod ViewSteps
 pub mod Working

@@ -1,6 +1,5 @@
 -- A message is handed: it goes to its pipe, or it is answered at once.
-use Rattle.sdd_dm.proofs.All.{Act, Arrive, ClassNo, Cond, DatesDiffer, Did, Handed, HasCopies, Home, List, Log, Msg, Open, Read, Rec, Records, Represent, Setting, Shows, ShowsClass, Site, Some, State, Ts, TxnNo, Use, View, Worked, [], all_dated, answer_of, answer_to, ap, arith, class_view, classes_of, due, empty_digest, false, first_some, frozen, goes_through, hands, head_due, head_of, home_of, is_answer, is_asked_of, is_processing, is_put, is_wait, length, length-update, made_one, nat_tests, next, notes_handed, nothing_noted, open_due, opens, or_else, pipe, pipe_at, put_digest, refl, state_handed, subst, suc, sym, update, view_of, waits, ℕ, ◌++◌, ◌==◌, ◌∙◌, ◌∷◌, ◌≡◌, ◌≤◌}
-use Rattle.sdd_dm.proofs.ByClass.{at_own, at_other, same_number, other_number, by_class, first_map, only_class}
+use Rattle.sdd_dm.proofs.All.{Act, Arrive, ClassNo, Cond, DatesDiffer, Did, Handed, HasCopies, Home, List, Log, Msg, Open, Read, Rec, Records, Represent, Setting, Shows, ShowsClass, Site, Some, State, Ts, TxnNo, Use, View, Worked, [], all_dated, answer_of, answer_to, ap, arith, at_other, at_own, by_class, class_view, classes_of, due, empty_digest, false, first_map, first_some, frozen, goes_through, hands, head_due, head_of, home_of, is_answer, is_asked_of, is_processing, is_put, is_wait, length, length-update, made_one, nat_tests, next, notes_handed, nothing_noted, only_class, open_due, opens, or_else, other_number, pipe, pipe_at, put_digest, refl, same_number, state_handed, subst, suc, sym, update, view_of, waits, ℕ, ◌++◌, ◌==◌, ◌∙◌, ◌∷◌, ◌≡◌, ◌≤◌}
 use Rattle.sdd_dm.proofs.Applied.{dated_kept}
 use Rattle.sdd_dm.proofs.Scans.{from}
 

@@ -1,6 +1,5 @@
 -- What a state shows of a log: what the heads may do is the same by its digests and by the pipes.
-use Rattle.sdd_dm.proofs.All.{Bool, ClassView, Cond, IsDigest, List, Log, None, Option, Setting, Shows, State, [], ap, arith, at_class, class_view, empty_pipe, false, filter, find, head, head_at, head_of, head_step, is_at_least, is_met, is_met_in, judge, judge_in, judged, judged_in, last_write_is, length, not, passed_is, pipe, pipe_at, refl, spoiler, spoils, spoils_in, step_at, suc, view_of, waits, waits_at, ℕ, ◌∙◌, ◌∷◌, ◌≡◌, ◌≤◌}
-use Rattle.sdd_dm.proofs.ByClass.{at_classes, past_range, past, any_map, any_range, filter_same}
+use Rattle.sdd_dm.proofs.All.{Bool, ClassView, Cond, IsDigest, List, Log, None, Option, Setting, Shows, State, [], any_map, any_range, ap, arith, at_class, at_classes, class_view, empty_pipe, false, filter, filter_same, find, head, head_at, head_of, head_step, is_at_least, is_met, is_met_in, judge, judge_in, judged, judged_in, last_write_is, length, not, passed_is, past, past_range, pipe, pipe_at, refl, spoiler, spoils, spoils_in, step_at, suc, view_of, waits, waits_at, ℕ, ◌∙◌, ◌∷◌, ◌≡◌, ◌≤◌}
 
 -- the view at a class
 

@@ -1,14 +1,10 @@
 -- The state after a step of a head shows the log with the act of that head.
-use Rattle.sdd_dm.proofs.All.{All, AreHere, AreSame, ClassNo, Cond, Dated, DatesDiffer, Did, Frozen, HasCopies, Held, IsHere, IsTrue, Kept, List, Log, Msg, Option, Read, Rec, Records, Represent, Setting, Shows, ShowsClass, Site, Some, State, Ts, TxnNo, Use, ap, arith, changes_in, contents, dated, false, fold, frozen, frozen_at, frozen_for, frozen_is_held, frozen_now, frozen_of, head, head_taken, held_for, here_all, is_answer, is_apply, is_here, is_processing, is_taken, is_wait, length, length-update, map, nat_tests, opens, pipe, refl, represent_all, represent_same, rows_at, subst, sym, take_all, take_digest, true, update, waits, with_change, ℕ, ◌++◌, ◌∙◌, ◌∷◌, ◌≡◌, ◌≤◌}
-use Rattle.sdd_dm.proofs.ByClass.{at_own, at_other, same_number, other_number, by_class}
+use Rattle.sdd_dm.proofs.All.{All, AreHere, AreSame, ClassNo, Cond, Dated, DatesDiffer, Did, Frozen, HasCopies, Held, IsHere, IsTrue, Kept, List, Log, Msg, Option, Read, Rec, Records, Represent, Setting, Shows, ShowsClass, Site, Some, State, Ts, TxnNo, Use, ap, arith, at_other, at_own, by_class, changes_in, contents, dated, false, fold, frozen, frozen_at, frozen_for, frozen_is_held, frozen_now, frozen_of, head, head_taken, held_for, here_all, is_answer, is_apply, is_here, is_processing, is_taken, is_wait, length, length-update, map, nat_tests, opens, other_number, pipe, refl, represent_all, represent_same, rows_at, same_number, subst, sym, take_all, take_digest, true, update, waits, with_change, ℕ, ◌++◌, ◌∙◌, ◌∷◌, ◌≡◌, ◌≤◌}
 use Rattle.sdd_dm.proofs.Handed.{head_handed}
 use Rattle.sdd_dm.proofs.Applied.{applied_differ, same_dated, dated_kept}
+use Rattle.sdd_rules.proofs.dm.Acted.{waits_own}
 
 -- what a record changes of its class, and of another
-
-pub waits_own : (c : ℕ) (r : Rec) (sends : List (Site × Msg)) (log : Log) → is_processing r ≡ true
-    → waits c (Did (Records c r sends) ∷ log) ≡ false
-waits_own c r sends log e = rw (same_number c c refl, e) refl
 
 frozen_kept : (s : Setting) (k c : ℕ) (r : Rec) (sends : List (Site × Msg)) (log : Log) → is_answer r ≡ false
     → frozen s c (Did (Records k r sends) ∷ log) ≡ frozen s c log

@@ -1,6 +1,5 @@
 -- Each step of a head is the act that is due next, and the state after it shows the log with that act.
-use Rattle.sdd_dm.proofs.All.{Answer, Apply, Bases, Bool, ClassNo, Did, Done, Log, Msg, Notes, Null, Pass, Processes, Reached, Read, Ready, Records, Refuses, Setting, Shows, Site, Some, State, Step, Waits, Worked, Write, [], act_by, act_in, ap, arith, changes_in, counts_of, dated, done_for, false, first_step, frozen_at, frozen_now, head, head_at, home_of, length, next, notes_after, pipe, reached_more, refl, rules, source_of, state_after, step_by, stepped, subst, sym, true, view_of, waits_at, ℕ, ◌∙◌, ◌∷◌, ◌≡◌, ◌≤◌}
-use Rattle.sdd_dm.proofs.ViewSteps.{dated_is}
+use Rattle.sdd_dm.proofs.All.{Answer, Apply, Bases, Bool, ClassNo, Did, Done, Log, Msg, Notes, Null, Pass, Processes, Reached, Read, Ready, Records, Refuses, Setting, Shows, Site, Some, State, Step, Waits, Worked, Write, [], act_by, act_in, ap, arith, changes_in, counts_of, dated, dated_is, done_for, false, first_step, frozen_at, frozen_now, head, head_at, home_of, length, next, notes_after, pipe, reached_more, refl, rules, source_of, state_after, step_by, stepped, subst, sym, true, view_of, waits_at, ℕ, ◌∙◌, ◌∷◌, ◌≡◌, ◌≤◌}
 use Rattle.sdd_dm.proofs.Shown.{head_shown}
 use Rattle.sdd_dm.proofs.FirstDue.{IsFirst, first_is, next_act}
 use Rattle.sdd_dm.proofs.Stepped.{frozen_is, passed_shown, applied_shown, answered_shown, waiting_shown}

@@ -5,10 +5,11 @@ use Rattle.std.specs.List.{list_any, list_all, range_with_len}
 use Rattle.sdd_module.specs.All.{Change, ClassNo, Cond, Msg, Null, Read, Write, class_no, first_some, head_of, time_at}
 use Rattle.sdd_pipe.specs.Digest.{Digest}
 use Rattle.sdd_pipe.specs.Pipes.{pipe_at}
-use Rattle.sdd_dm.specs.declared.step.Step.{Step}
-use Rattle.sdd_dm.specs.declared.step.Step.TheVariants.{Processes, Refuses, Waits}
+use Rattle.sdd_rules.specs.declared.step.Step.{Step}
+use Rattle.sdd_rules.specs.declared.step.Step.TheVariants.{Processes, Refuses, Waits}
 pub use Rattle.sdd_conditions.specs.Conditions.{is_met_in, last_write_in, spoiler, spoils_in, unmet}
-use Rattle.sdd_dm.specs.Due.{holds_back, or_zero}
+use Rattle.sdd_rules.specs.dm.Due.{holds_back}
+use Rattle.sdd_conditions.specs.Conditions.{or_zero}
 
 -- the first unprocessed message of class c, and whether it waits
 abbrev pub head_at : List Digest → ℕ → Option Msg

@@ -1,12 +1,6 @@
-pub mod Copies
-pub mod Due
-pub mod Fits
 pub mod Heads
-pub mod Opens
-pub mod Pipes
 pub mod Ranks
 pub mod Represents
 pub mod Starts
 pub mod State
-pub mod Views
 pub mod Waiting

@@ -2,8 +2,8 @@
 use Rattle.std.specs.Prelude.{ℕ, ◌≤◌, ◌≡◌, Some}
 use Rattle.sdd_module.specs.All.{Act, Answer, Apply, Arrive, Pass, Rec, Records, Sends, Wait}
 use Rattle.sdd_module.specs.history.declared.record.Rec.TheVariants.{Reject}
-use Rattle.sdd_dm.specs.Views.{Home, View}
-use Rattle.sdd_dm.specs.Due.{due, IsDue}
+use Rattle.sdd_rules.specs.dm.Views.{Home, View}
+use Rattle.sdd_rules.specs.dm.Due.{due, IsDue}
 
 abbrev pub rank_of_record : Rec → ℕ
 rank_of_record (Arrive txn attempt dm) = 1

@@ -7,12 +7,12 @@ use Rattle.sdd_copy.specs.Sets.{DatesDiffer}
 use Rattle.sdd_copy.specs.Copies.{is_here, Represent}
 use Rattle.sdd_pipe.specs.Digest.{IsDigest}
 use Rattle.sdd_pipe.specs.Pipes.{pipe_at}
-use Rattle.sdd_dm.specs.Pipes.{pipe, waits}
-use Rattle.sdd_dm.specs.Copies.{changes_in, first_rows, dated, frozen}
-use Rattle.sdd_dm.specs.Opens.{opens}
-use Rattle.sdd_dm.specs.Views.{home_of}
-use Rattle.sdd_dm.specs.Due.{next}
-use Rattle.sdd_dm.specs.Fits.{IsHere, fits}
+use Rattle.sdd_rules.specs.dm.Pipes.{pipe, waits}
+use Rattle.sdd_rules.specs.dm.Copies.{changes_in, first_rows, dated, frozen}
+use Rattle.sdd_rules.specs.dm.Opens.{opens}
+use Rattle.sdd_rules.specs.dm.Views.{home_of}
+use Rattle.sdd_rules.specs.dm.Due.{next}
+use Rattle.sdd_rules.specs.dm.Fits.{IsHere, fits}
 use Rattle.sdd_dm.specs.Heads.{waits_at, first_step}
 use Rattle.sdd_dm.specs.State.{State, frozen_of}
 

@@ -7,11 +7,11 @@ use Rattle.sdd_copy.specs.Copies.{Held, rows_at, with_change}
 use Rattle.sdd_copy.specs.Frozen.{Frozen, frozen_for, values_in, counts_of}
 use Rattle.sdd_pipe.specs.Digest.{Digest, put_digest, take_digest}
 use Rattle.sdd_pipe.specs.Pipes.{update}
-use Rattle.sdd_dm.specs.declared.step.Step.{Step}
-use Rattle.sdd_dm.specs.declared.step.Step.TheVariants.{Processes, Refuses, Waits}
-use Rattle.sdd_dm.specs.Copies.{reduced_at, rows_held, all_held}
-use Rattle.sdd_dm.specs.Views.{Home, source_of}
-use Rattle.sdd_dm.specs.Due.{ask_for, done_for}
+use Rattle.sdd_rules.specs.declared.step.Step.{Step}
+use Rattle.sdd_rules.specs.declared.step.Step.TheVariants.{Processes, Refuses, Waits}
+use Rattle.sdd_rules.specs.dm.Copies.{reduced_at, rows_held, all_held}
+use Rattle.sdd_rules.specs.dm.Views.{Home, source_of}
+use Rattle.sdd_rules.specs.dm.Due.{ask_for, done_for}
 
 -- its number with the site of each class, and by class from 0 on what is kept of the pipe, whether its head waits, and the
 -- rows that are held; the copies; and whether the pipes are live

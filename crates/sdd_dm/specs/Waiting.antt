@@ -1,30 +1,10 @@
--- For what the READ at the head of a pipe waits.
-use Rattle.std.specs.Prelude.{ℕ, ◌≡◌, ◌==◌, Bool, not, if◌then◌else◌, List, filter_map, find, length, Option, Some, None, MatchOption}
+-- For what the READ at the head of a pipe waits, by digests.
+use Rattle.std.specs.Prelude.{ℕ, Bool, not, if◌then◌else◌, List, filter_map, find, length, Option, Some, None}
 use Rattle.std.specs.List.{range_with_len}
-use Rattle.sdd_module.specs.All.{Change, ClassNo, Cond, Log, Msg, Read, Setting, Write, class_no}
-use Rattle.sdd_pipe.specs.Pipe.{head}
+use Rattle.sdd_module.specs.All.{Change, ClassNo, Cond, Msg, Read, Write, class_no}
 use Rattle.sdd_pipe.specs.Digest.{Digest}
-use Rattle.sdd_dm.specs.Pipes.{pipe, waits}
-use Rattle.sdd_dm.specs.Views.{view_of}
-use Rattle.sdd_dm.specs.Due.{is_met}
 use Rattle.sdd_dm.specs.Heads.{head_at, holds_in, is_met_in, unmet, waits_at}
-
--- the conditions of a READ with this timestamp
-abbrev pub conds_of : ℕ → Option Msg → Option (List Cond)
-conds_of t (Some (Read ts class txn attempt conds uses)) = if ts.0 == t then Some conds else None
-conds_of t _ = None
-
--- those of the READ of class c with this timestamp that waits, where there is one
-abbrev pub waiting_at : ℕ → ℕ → Log → Option (List Cond)
-waiting_at c t log = if waits c log then conds_of t (head (pipe c log)) else None
-
--- None where no such READ waits, and else the first of its conditions that isn't met
-abbrev pub IsAwaited : Setting → Log → ℕ → ℕ → Option Cond → Type 0
-IsAwaited s log c t answer =
-    MatchOption answer (waiting_at c t log ≡ None)
-    (λ d. (conds : List Cond) × (waiting_at c t log ≡ Some conds) × (find (λ e. not (is_met (view_of s log) e)) conds ≡ Some d))
-
--- the same by digests
+use Rattle.sdd_rules.specs.dm.Waiting.{conds_of}
 
 abbrev pub waiting_in : List Digest → List Bool → ℕ → ℕ → Option (List Cond)
 waiting_in pipes flags c t = if waits_at flags c then conds_of t (head_at pipes c) else None

@@ -3,11 +3,12 @@ ghost use Rattle.std.specs.Option.{option_copied, option_map};
 ghost use Rattle.std.specs.List.{All};
 ghost use Rattle.sdd_module.specs.All.{D, Does, FitsStart, Handed, Log, Setting, has_copy, number_of};
 ghost use Rattle.sdd_copy.specs.Copies.{is_here, Represent};
-ghost use Rattle.sdd_dm.specs.Copies.{dated};
-ghost use Rattle.sdd_dm.specs.Due.{next};
-ghost use Rattle.sdd_dm.specs.Fits.{fits};
+ghost use Rattle.sdd_rules.specs.dm.Copies.{dated};
+ghost use Rattle.sdd_rules.specs.dm.Due.{next};
+ghost use Rattle.sdd_rules.specs.dm.Fits.{fits};
 ghost use Rattle.sdd_dm.specs.Represents.{Represents};
-ghost use Rattle.sdd_dm.specs.Waiting.{IsAwaited, holders_in, unmet_in};
+ghost use Rattle.sdd_rules.specs.dm.Waiting.{IsAwaited};
+ghost use Rattle.sdd_dm.specs.Waiting.{holders_in, unmet_in};
 ghost use Rattle.sdd_pipe.specs.Digest.{passed_to};
 ghost use Rattle.sdd_pipe.specs.Pipes.{pipe_at};
 

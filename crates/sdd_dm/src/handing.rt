@@ -3,7 +3,7 @@ ghost use Rattle.std.specs.Prelude.{◌≡◌, ◌<◌, ℕ, OnOk, IfOk, IsTrue,
 ghost use Rattle.std.specs.Option.{option_map};
 ghost use Rattle.sdd_copy.specs.Frozen.{values_in};
 ghost use Rattle.sdd_pipe.specs.Pipes.{update};
-ghost use Rattle.sdd_dm.specs.Copies.{rows_held, all_held, reduced_at};
+ghost use Rattle.sdd_rules.specs.dm.Copies.{rows_held, all_held, reduced_at};
 ghost use Rattle.sdd_dm.specs.State.{State, frozen_of, class_of_pipe, arrived, state_answered, with_answers, state_handed, notes_handed};
 
 use crate::parts::Parts;

@@ -9,10 +9,10 @@ ghost use Rattle.sdd_dm.specs.Waiting.{waiting_in, first_unmet, unmet_in};
 use crate::hints::Hints;
 use crate::holding::is_held;
 use crate::slots::waits_at;
-use crate::step::Step;
 use sdd_conditions::{all_met, first_unmet, lacks_at, last_write, place_unmet, spoiler, unmet};
 use sdd_module::{ClassNo, Cond, Conds, Msg, NoMemory, Ts};
 use sdd_pipe::Pipes;
+use sdd_rules::Step;
 use std::alloc::Global;
 
 /// The first head that may do something, from class 0 on.

@@ -1,10 +1,10 @@
 ghost use Rattle.std.specs.Prelude.{ℕ, ◌≡◌, ◌≤◌, List, Some, map, slice_get, true};
 ghost use Rattle.sdd_module.specs.All.{ClassNo, Cond, Ts};
-ghost use Rattle.sdd_dm.specs.Due.{judge, spoils};
-ghost use Rattle.sdd_dm.specs.Fits.{Ascend};
+ghost use Rattle.sdd_rules.specs.dm.Due.{judge, spoils};
+ghost use Rattle.sdd_rules.specs.dm.Fits.{Ascend};
 ghost use Rattle.sdd_dm.specs.Ranks.{IsLowest};
-ghost use Rattle.sdd_dm.specs.declared.step.Step.TheVariants.{Refuses};
-ghost use Rattle.sdd_dm.specs.Views.{Home, View};
+ghost use Rattle.sdd_rules.specs.declared.step.Step.TheVariants.{Refuses};
+ghost use Rattle.sdd_rules.specs.dm.Views.{Home, View};
 
 /// Of all that is due at a data module, by whatever pipe or message, what comes next has the
 /// lowest rank.

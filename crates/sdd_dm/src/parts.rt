@@ -6,20 +6,20 @@ ghost use Rattle.sdd_module.specs.All.{D, FitsStart};
 ghost use Rattle.sdd_dm.specs.Heads.{first_step};
 ghost use Rattle.sdd_dm.specs.Represents.{Shows, Worked};
 ghost use Rattle.sdd_dm.specs.State.{class_of_pipe};
-ghost use Rattle.sdd_dm.specs.Views.{source_of};
+ghost use Rattle.sdd_rules.specs.dm.Views.{source_of};
 ghost use Rattle.sdd_dm.specs.Waiting.{waiting_in, first_unmet, holders_in, unmet_in};
 
 use crate::hints::Hints;
 use crate::holding::{ClassNos, holders};
 use crate::judging::{awaited_cond, first_step, unmet_conds};
 use crate::starting::{first_copies, no_spaces, no_waits, sources};
-use crate::step::Step;
 use sdd_copy::{Copies, Space};
 use sdd_module::{
     Catalogue, ClassNo, Cond, Conds, DmNo, Draft, Msg, NoMemory, RelNo, Row, Site, Ts,
     law_rows_make_database,
 };
 use sdd_pipe::Pipes;
+use sdd_rules::Step;
 use std::alloc::Global;
 use std::marker::Model;
 

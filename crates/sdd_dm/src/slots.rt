@@ -1,7 +1,7 @@
 //! What a module keeps for each class, from class 0 on.
 ghost use Rattle.std.specs.Prelude.{◌≡◌, OnOk};
 ghost use Rattle.sdd_pipe.specs.Pipes.{update};
-ghost use Rattle.sdd_dm.specs.Copies.{reduced_at};
+ghost use Rattle.sdd_rules.specs.dm.Copies.{reduced_at};
 ghost use Rattle.sdd_dm.specs.Heads.{waits_at};
 ghost use Rattle.sdd_dm.specs.State.{frozen_of};
 

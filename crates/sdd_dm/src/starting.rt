@@ -4,7 +4,7 @@ ghost use Rattle.std.specs.List.{All};
 ghost use Rattle.sdd_module.specs.All.{FitsStart, IsEntry, T, U, database_of, fragment_of, has_copy};
 ghost use Rattle.sdd_module.specs.catalog.Catalogue.{holds_key};
 ghost use Rattle.sdd_copy.specs.Copies.{Represent, is_here, with_change};
-ghost use Rattle.sdd_dm.specs.Copies.{first_row};
+ghost use Rattle.sdd_rules.specs.dm.Copies.{first_row};
 ghost use Rattle.sdd_dm.specs.Starts.{lent, own_rows, with_own};
 
 use sdd_copy::{Copies, Space};

@@ -3,16 +3,16 @@ ghost use Rattle.std.specs.Prelude.{◌≡◌, ◌<◌, ◌++◌, ◌∷◌, [],
 ghost use Rattle.sdd_copy.specs.Frozen.{counts_of};
 ghost use Rattle.sdd_module.specs.All.{with_sends};
 ghost use Rattle.sdd_pipe.specs.Pipes.{update};
-ghost use Rattle.sdd_dm.specs.declared.step.Step.TheVariants.{Processes, Refuses, Waits};
-ghost use Rattle.sdd_dm.specs.Due.{ask_for};
+ghost use Rattle.sdd_rules.specs.declared.step.Step.TheVariants.{Processes, Refuses, Waits};
+ghost use Rattle.sdd_rules.specs.dm.Due.{ask_for};
 ghost use Rattle.sdd_dm.specs.Heads.{head_at, step_at};
 ghost use Rattle.sdd_dm.specs.State.{State, frozen_now, head_taken, state_after, notes_after};
 
 use crate::parts::Parts;
 use crate::slots::{put_space, set_waiting};
-use crate::step::Step;
 use sdd_copy::Space;
 use sdd_module::{ClassNo, Cond, Conds, Draft, Msg, NoMemory, Rec, Site, Ts, Use, UseCounts};
+use sdd_rules::Step;
 
 impl Parts {
     /// Does what the head of a class may do.

@@ -1,9 +1,8 @@
 -- The kept choices stay enough to tell the answer.
-use Rattle.sdd_exec.proofs.All.{Agrees, Answers, AreEnough, AreSound, Choice, Condition, Has, IsAnswered, IsOutside, IsSifted, List, NoRepeats, None, Ref, Row, Some, TellsAnswer, Tie, TooMany, Tuple, [], all_rows, ap, arith, cases_Bool, choices_of_part, distinct, eq-eqb, extended, false, filter_map, inl, inr, is_taken, is_there, joined, key_for, key_of, keyed, length, lt-ltb, map, meets_all, nat_lt, pair_of, pairs_of, passes, picked, placed, product, refl, row_from, selection, slice_index, slice_index_or, subst, sym, ties_of, true, value_at, within, ℕ, ⊎_elim, ◌++◌, ◌+◌, ◌<◌, ◌==◌, ◌∙◌, ◌∷◌, ◌≡◌, ◌⊎◌}
+use Rattle.sdd_exec.proofs.All.{Agrees, Answers, AreEnough, AreSound, Choice, Condition, Has, Has-filter, Has-filter_from, Has-filter_map, Has-filter_map_from, Has-flat_map, Has-map, Has-map_from, IsAnswered, IsOutside, IsSifted, List, NoRepeats, None, Ref, Row, Some, TellsAnswer, Tie, TooMany, Tuple, [], all_rows, ap, arith, cases_Bool, choices_of_part, distinct, distinct_same, eq-eqb, extended, false, filter_map, inl, inr, is_taken, is_there, joined, key_for, key_of, keyed, length, lt-ltb, map, meets_all, nat_lt, pair_of, pairs_of, passes, picked, placed, product, refl, row_from, selection, slice_index, slice_index_or, subst, sym, ties_of, true, value_at, within, ℕ, ⊎_elim, ◌++◌, ◌+◌, ◌<◌, ◌==◌, ◌∙◌, ◌∷◌, ◌≡◌, ◌⊎◌}
 use Rattle.sdd_exec.proofs.Complete.{place_is_there, passes_all, ties_hold, keys_meet, keys_agree, has_keyed, has_place, placed_at, taken_or_new, same_places}
-use Rattle.sdd_exec.proofs.Distinct.{distinct_same, in_distinct, no_more_rows}
+use Rattle.sdd_exec.proofs.Distinct.{in_distinct, no_more_rows}
 use Rattle.sdd_exec.proofs.Inside.{place_old, sound_part, sound_joined}
-use Rattle.sdd_exec.proofs.Members.{Has-map, Has-map_from, Has-filter, Has-filter_from, Has-flat_map, Has-filter_map, Has-filter_map_from}
 use Rattle.sdd_exec.proofs.Picked.{row_of_picked}
 use Rattle.sdd_exec.proofs.Product.{picked_in_product, choice_of, found_row}
 use Rattle.sdd_exec.proofs.Sifted.{sifted_answers}

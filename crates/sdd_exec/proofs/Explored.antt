@@ -1,8 +1,7 @@
 -- What is found of the choices of all parts that come of a choice of some.
-use Rattle.sdd_exec.proofs.All.{Agrees, AllInside, Choice, Condition, Const, Has, IsDead, IsDone, IsExplored, IsExploredBy, IsThereIn, List, NoneComes, NoneComesBy, Ref, Row, Same, StillHas, Tie, [], ap, are_taken, arith, both, cases_Bool, eqb-false, eqb-true, false, inl, is_taken, is_there, key_for, key_of, keyed, length, link_between, links_of, list_all-append, lists_decide, marks_of, meets_all, outs_of, passes, picked, placed, places, refl, same_row, slice_index, slice_index_or, slice_index_or as get_or, spliced, subst, suc, sym, take, take_more, ties_of, true, value_at, value_decides, values_of, ℕ, ⊎_elim, ◌++◌, ◌+◌, ◌-◌, ◌<◌, ◌==◌, ◌∙◌, ◌∷◌, ◌≡◌}
+use Rattle.sdd_exec.proofs.All.{Agrees, AllInside, Choice, Condition, Const, Has, Has-append, Has-filter_from, Has-map_from, IsDead, IsDone, IsExplored, IsExploredBy, IsThereIn, List, NoneComes, NoneComesBy, Ref, Row, Same, StillHas, Tie, [], ap, are_taken, arith, both, cases_Bool, eqb-false, eqb-true, false, inl, is_taken, is_there, key_for, key_of, keyed, length, link_between, links_of, list_all-append, lists_decide, marks_of, meets_all, outs_of, passes, picked, placed, places, refl, same_row, slice_index, slice_index_or, slice_index_or as get_or, spliced, subst, suc, sym, take, take_more, ties_of, true, value_at, value_decides, values_of, ℕ, ⊎_elim, ◌++◌, ◌+◌, ◌-◌, ◌<◌, ◌==◌, ◌∙◌, ◌∷◌, ◌≡◌}
 use Rattle.sdd_exec.proofs.Complete.{has_keyed, has_place, keys_agree, keys_meet, passes_all, place_is_there, placed_at, same_places, taken_or_new, ties_hold, value_agrees}
 use Rattle.sdd_exec.proofs.Inside.{inside_extended, sound_start, there_extended}
-use Rattle.sdd_exec.proofs.Members.{Has-append, Has-filter_from, Has-map_from}
 use Rattle.sdd_exec.proofs.Picked.{row_of_picked}
 use Rattle.sdd_exec.proofs.Sifted.{alike_by_values, outs_by_values}
 use Rattle.sdd_exec.proofs.Splices.{meets_new, new_in, new_there, outs_new}

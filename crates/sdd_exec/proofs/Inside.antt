@@ -1,7 +1,6 @@
 -- Choices that were extended by a row which its ties and its own conditions allow: their rows are there, and meet the conditions inside.
-use Rattle.sdd_exec.proofs.All.{AllInside, AreSound, Bool, Choice, Condition, Const, Has, IsThereIn, List, MeetsInside, None, Option, Ref, Row, Same, Some, Tie, Tuple, [], ap, arith, both, cases_Bool, choices_of_part, column, cond, cons_option, eq-eqb, eqb-true, extended, false, is_taken, joined, key_for, key_of, keyed, length, lists_decide, meets, nat_lt, pair_of, pairs_of, passes, passes_one, picked, placed, places, refl, same_row, slice_index, slice_index_or, subst, suc, sym, tie_of, ties_of, true, value_at, value_decides, ℕ, ⊎_elim, ◌++◌, ◌+◌, ◌-◌, ◌<◌, ◌==◌, ◌∙◌, ◌∷◌, ◌≡◌}
+use Rattle.sdd_exec.proofs.All.{AllInside, AreSound, Bool, Choice, Condition, Const, Has, Has-filter_from, Has-filter_map_from, Has-flat_map_from, Has-map_from, IsThereIn, List, MeetsInside, None, Option, Ref, Row, Same, Some, Tie, Tuple, [], ap, arith, both, cases_Bool, choices_of_part, column, cond, cons_option, eq-eqb, eqb-true, extended, false, is_taken, joined, key_for, key_of, keyed, length, lists_decide, meets, nat_lt, pair_of, pairs_of, passes, passes_one, picked, placed, places, refl, same_row, slice_index, slice_index_or, subst, suc, sym, tie_of, ties_of, true, value_at, value_decides, ℕ, ⊎_elim, ◌++◌, ◌+◌, ◌-◌, ◌<◌, ◌==◌, ◌∙◌, ◌∷◌, ◌≡◌}
 use Rattle.sdd_exec.proofs.Complete.{value_agrees, placed_at, taken_or_new}
-use Rattle.sdd_exec.proofs.Members.{Has-map_from, Has-filter_from, Has-filter_map_from, Has-flat_map_from}
 use Rattle.sdd_exec.proofs.Picked.{value_in_picked}
 
 -- a part that was taken isn't one that wasn't

@@ -1,10 +1,9 @@
 -- What a search keeps.
-use Rattle.sdd_exec.proofs.All.{Bool, Choice, Condition, Explored, Has, IsDead, IsDone, IsExplored, IsKept, IsNode, List, Node, NoRepeats, None, Ref, Row, Some, StillHas, Tuple, [], all_rows, ap, arith, cases_Bool, cond, contains, distinct, false, inl, inr, insert_key, is_dead, is_seen, is_there, length, lists_decide, map, meets_all, nat_lt, option_map_or, picked, product, refl, row_cmp, same_row, selection, slice_get, slice_index_or, subst, suc, sym, true, value_at, value_decides, values_of, within, zero, ℕ, ⊎_elim, ◌<◌, ◌∙◌, ◌∷◌, ◌≡◌, ◌⊎◌}
+use Rattle.sdd_exec.proofs.All.{Bool, Choice, Condition, Explored, Has, Has-filter, Has-filter_from, Has-map, Has-map_from, IsDead, IsDone, IsExplored, IsKept, IsNode, List, NoRepeats, Node, None, Ref, Row, Some, StillHas, Tuple, [], all_rows, ap, arith, cases_Bool, cond, contains, distinct, distinct_same, false, inl, inr, insert_key, is_dead, is_seen, is_there, length, lists_decide, map, meets_all, nat_lt, new_or_old, new_there, old_there, option_map_or, picked, product, refl, row_cmp, same_row, selection, slice_get, slice_index_or, subst, suc, sym, true, value_at, value_decides, values_of, within, zero, ℕ, ⊎_elim, ◌<◌, ◌∙◌, ◌∷◌, ◌≡◌, ◌⊎◌}
 use Rattle.std.proofs.Common.{slice_set}
-use Rattle.sdd_exec.proofs.Distinct.{distinct_same, insert_alone, new_or_old, new_there, old_there}
+use Rattle.sdd_exec.proofs.Distinct.{insert_alone}
 use Rattle.sdd_exec.proofs.Enough.{no_room_for}
 use Rattle.sdd_exec.proofs.Explored.{answered_explored, done_explored}
-use Rattle.sdd_exec.proofs.Members.{Has-filter, Has-filter_from, Has-map, Has-map_from}
 use Rattle.sdd_exec.proofs.Product.{choice_of, picked_in_product}
 
 -- the row of a choice that meets the conditions is one of the answer

@@ -1,6 +1,5 @@
 -- A plan's nodes and indexes.
-use Rattle.sdd_exec.proofs.All.{AreMade, AreNexts, AreNodes, Condition, Has, IsMade, IsNext, IsNode, List, Made, Next, Node, Ref, Row, Some, Tie, [], ap, column, inl, inr, key_of, keyed, map, places, places_made, refl, slice_get, slice_index_or, suc, sym, zero, ℕ, ⊎_elim, ◌++◌, ◌+◌, ◌∙◌, ◌∷◌, ◌≡◌}
-use Rattle.sdd_exec.proofs.Members.{Has-append}
+use Rattle.sdd_exec.proofs.All.{AreMade, AreNexts, AreNodes, Condition, Has, Has-append, IsMade, IsNext, IsNode, List, Made, Next, Node, Ref, Row, Some, Tie, [], ap, column, inl, inr, key_of, keyed, map, places, places_made, refl, slice_get, slice_index_or, suc, sym, zero, ℕ, ⊎_elim, ◌++◌, ◌+◌, ◌∙◌, ◌∷◌, ◌≡◌}
 
 key_by : (row : Row) (ties : List Tie) → key_of ties row ≡ map (column row) (map (λ (t : Tie). t.column) ties)
 key_by row [] = refl

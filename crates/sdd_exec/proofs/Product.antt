@@ -1,7 +1,5 @@
 -- The tuples of a product are the rows of the choices that are there; so a join finds the answer.
-use Rattle.sdd_exec.proofs.All.{Bool, Bor, Choice, Condition, Has, HasAll, List, None, Option, Ref, Row, Some, Tuple, [], arith, both, cases_Bool, cond, distinct, drop, filter_map, inl, is_there, le-ltb, length, lt-ltb, ltb-true, map, meets_all, nat_lt, picked, product, projection, refl, row_from, row_of_tuple, rows_lent, selection, slice_index, slice_index_or, take, take_all, true, value_at, within, ℕ, ⊎_elim, ◌<◌, ◌∙◌, ◌∷◌, ◌≡◌, ◌≤◌}
-use Rattle.sdd_exec.proofs.Members.{Has-map, Has-map_from, Has-filter, Has-filter_from, Has-flat_map, Has-flat_map_from, Has-filter_map, Has-filter_map_from, Has-get_or, place_of}
-use Rattle.sdd_exec.proofs.Distinct.{distinct_same}
+use Rattle.sdd_exec.proofs.All.{Bool, Bor, Choice, Condition, Has, Has-filter, Has-filter_from, Has-filter_map, Has-filter_map_from, Has-flat_map, Has-flat_map_from, Has-get_or, Has-map, Has-map_from, HasAll, List, None, Option, Ref, Row, Some, Tuple, [], arith, both, cases_Bool, cond, distinct, distinct_same, drop, filter_map, inl, is_there, le-ltb, length, lt-ltb, ltb-true, map, meets_all, nat_lt, picked, place_of, product, projection, refl, row_from, row_of_tuple, rows_lent, selection, slice_index, slice_index_or, take, take_all, true, value_at, within, ℕ, ⊎_elim, ◌<◌, ◌∙◌, ◌∷◌, ◌≡◌, ◌≤◌}
 use Rattle.sdd_exec.proofs.Steps.{part_is_fewer}
 
 pub picked_in_product : (parts : List (List Row)) (t : Choice) → is_there parts t ≡ true → Has (product parts) (picked parts t)

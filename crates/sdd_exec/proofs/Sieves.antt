@@ -1,8 +1,6 @@
 -- What a sieve covers.
-use Rattle.sdd_exec.proofs.All.{Bool, Choice, Condition, Has, HasLike, IsCovered, IsSieve, IsSifted, List, Mesh, NoRepeats, Offered, Ref, Row, Sieve, TooMany, [], ap, append-nil, arith, both, cases_Bool, cond, false, flat_map, flat_map-append, found_with, inl, insert_key, is_apart, length, links_of, lists_decide, map, map-append, not, outs_of, picked, placed, refl, row_cmp, same_row, slice_index_or as get_or, subst, sym, take, take_more, true, value_at, value_decides, values_of, ℕ, ⊎_elim, ◌++◌, ◌+◌, ◌-◌, ◌<◌, ◌==◌, ◌∙◌, ◌∷◌, ◌≡◌}
+use Rattle.sdd_exec.proofs.All.{Bool, Choice, Condition, Has, Has-append, Has-left, Has-map_from, Has-right, HasLike, IsCovered, IsSieve, IsSifted, List, Mesh, NoRepeats, Offered, Ref, Row, Sieve, TooMany, [], ap, append-nil, arith, both, cases_Bool, cond, false, flat_map, flat_map-append, found_with, inl, insert_key, is_apart, length, links_of, lists_decide, map, map-append, new_or_old, not, outs_of, picked, placed, refl, row_cmp, same_row, slice_index_or as get_or, subst, sym, take, take_more, true, value_at, value_decides, values_of, ℕ, ⊎_elim, ◌++◌, ◌+◌, ◌-◌, ◌<◌, ◌==◌, ◌∙◌, ◌∷◌, ◌≡◌}
 use Rattle.sdd_exec.proofs.Complete.{value_agrees, placed_at}
-use Rattle.sdd_exec.proofs.Distinct.{new_or_old}
-use Rattle.sdd_exec.proofs.Members.{Has-left, Has-right, Has-append, Has-map_from}
 
 -- what holds of more rows than there is room for
 pub many_more : (room : ℕ) (P Q : Row → Type 0) → ((row : Row) → P row → Q row) → TooMany room P → TooMany room Q

@@ -12,7 +12,8 @@ use Rattle.sdd_exec.specs.declared.plan.Made.{Made}
 use Rattle.sdd_exec.specs.declared.plan.Next.{Next}
 use Rattle.sdd_exec.specs.declared.plan.Node.{Node}
 use Rattle.sdd_exec.specs.declared.tie.Tie.{Tie}
-use Rattle.sdd_exec.specs.Choices.{Choice, picked, is_there, is_taken, keyed, places, same_row, ties_of, Has}
+use Rattle.sdd_exec.specs.Choices.{Choice, picked, is_there, is_taken, keyed, places, same_row, ties_of}
+use Rattle.sdd_shipped.specs.Members.{Has}
 use Rattle.sdd_exec.specs.Sifting.{all_rows, links_of, outs_of, values_of}
 use Rattle.sdd_exec.specs.Splicing.{Agrees, AllInside, IsThereIn}
 

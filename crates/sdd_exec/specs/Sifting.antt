@@ -10,7 +10,8 @@ use Rattle.sdd_lang.specs.All.{Row, distinct, product, projection, selection, va
 use Rattle.sdd_exec.specs.declared.tie.Tie.{Tie}
 use Rattle.sdd_exec.specs.declared.sieve.Mesh.{Mesh}
 use Rattle.sdd_exec.specs.declared.sieve.Sieve.{Sieve}
-use Rattle.sdd_exec.specs.Choices.{Choice, picked, placed, is_taken, same_row, key_of, keyed, ties_of, places, extended, row_from, Has, NoRepeats}
+use Rattle.sdd_exec.specs.Choices.{Choice, picked, placed, is_taken, same_row, key_of, keyed, ties_of, places, extended, row_from, NoRepeats}
+use Rattle.sdd_shipped.specs.Members.{Has}
 use Rattle.sdd_exec.specs.Splicing.{Answers}
 
 -- of two columns the one of a group, where the other is outside of it

@@ -6,7 +6,8 @@ use Rattle.sdd_lang.specs.declared.condition.Condition.{Condition}
 use Rattle.sdd_lang.specs.declared.condition.Condition.TheVariants.{Const, Same}
 use Rattle.sdd_lang.specs.All.{Row, meets_all, value_at}
 use Rattle.sdd_lang.specs.Condition.{meets}
-use Rattle.sdd_exec.specs.Choices.{Choice, picked, is_there, is_taken, Has}
+use Rattle.sdd_exec.specs.Choices.{Choice, picked, is_there, is_taken}
+use Rattle.sdd_shipped.specs.Members.{Has}
 
 -- the choice with the places of c in these parts and those of t in all others
 abbrev pub spliced : ℕ → List ℕ → Choice → Choice → Choice

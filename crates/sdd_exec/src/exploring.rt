@@ -5,6 +5,7 @@ ghost use Rattle.std.specs.Option.{option_map_or};
 ghost use Rattle.sdd_lang.specs.All.{distinct, product, projection, selection, within};
 ghost use Rattle.sdd_lang.specs.All as of_tuples;
 ghost use Rattle.sdd_exec.specs.Choices as joins;
+ghost use Rattle.sdd_shipped.specs.Members as members;
 ghost use Rattle.sdd_exec.specs.Sifting as sift;
 ghost use Rattle.sdd_exec.specs.Exploring as plans;
 
@@ -101,7 +102,7 @@ fn tell(
     ensures kept { IfOk result (λ _. plans.IsKept parts.now conds.now out.now nodes.now state.new) }
     ensures still { IfOk result (λ _. plans.StillHas state.old.found state.new.found) }
     ensures told { IfOk result (λ _. joins.is_there parts.now choice.now ≡ true → of_tuples.meets_all conds.now (joins.picked parts.now choice.now) ≡ true
-        → joins.Has state.new.found (sift.values_of parts.now out.now choice.now)) }
+        → members.Has state.new.found (sift.values_of parts.now out.now choice.now)) }
     ensures none { IfOk result (λ told. IfSome told (λ came. came ≡ false
         → joins.is_there parts.now choice.now ≡ true → of_tuples.meets_all conds.now (joins.picked parts.now choice.now) ≡ true → ⊥)) }
 {

@@ -3,8 +3,8 @@ ghost use Rattle.sdd_lang.specs.catalog.Catalogue as catalogues;
 ghost use Rattle.sdd_lang.specs.declared.transaction.Txn as transactions;
 ghost use Rattle.sdd_lang.specs.All.{Database, FitsTxn, IsDatabase};
 ghost use Rattle.sdd_lang.specs.Effect as of_databases;
-ghost use Rattle.sdd_exec.specs.Serves.{Serves};
-ghost use Rattle.sdd_exec.specs.Snapshots as snapshots;
+ghost use Rattle.sdd_shipped.specs.Serves.{Serves};
+ghost use Rattle.sdd_shipped.specs.Snapshots as snapshots;
 
 use crate::snapshot::Snapshot;
 use crate::source::Shipped;

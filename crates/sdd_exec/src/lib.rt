@@ -4,7 +4,7 @@
 //! (`sdd_lang/specs/Query.antt`), through an index, part by part; where there are many choices by a
 //! search that looks ahead (`specs/Exploring.antt` says what it finds), and where that takes too
 //! long by sieves (`specs/Sifting.antt` says what has to be kept); and on every database that a
-//! `Snapshot` serves (`specs/Serves.antt`), `effect` is the plain meaning of the transaction
+//! `Snapshot` serves (`sdd_shipped/specs/Serves.antt`), `effect` is the plain meaning of the transaction
 //! (`sdd_lang/specs/Effect.antt`).
 #![tactic(auto)]
 

@@ -3,7 +3,7 @@ ghost use Rattle.std.specs.BTreeMap.{insert_entry};
 ghost use Rattle.std.specs.Ordering.{int_cmp};
 ghost use Rattle.sdd_lang.specs.All.{entries_of};
 ghost use Rattle.sdd_exec.specs.Rising.{keyed_rows, by_keys, to_last_key};
-ghost use Rattle.sdd_exec.specs.Snapshots.{of_relation};
+ghost use Rattle.sdd_shipped.specs.Snapshots.{of_relation};
 
 use sdd_lang::{Entries, Entry, NoMemory, Row};
 use std::alloc::Global;

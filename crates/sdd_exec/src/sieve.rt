@@ -5,6 +5,7 @@ ghost use Rattle.std.specs.Option.{option_map_or};
 ghost use Rattle.std.specs.BTreeSet.{insert_key};
 ghost use Rattle.sdd_lang.specs.All.{Value, row_cmp};
 ghost use Rattle.sdd_exec.specs.Choices as joins;
+ghost use Rattle.sdd_shipped.specs.Members as members;
 ghost use Rattle.sdd_exec.specs.Sifting as sift;
 
 use crate::choice::{Choice, choice_with_place};
@@ -56,7 +57,7 @@ fn take_found(alloc: Global, found: &mut HashMap<Row, Found>, links: &Row) -> Fo
 /// Adds a row to what was found; whether it is new.
 fn add_row(alloc: Global, rows: &mut Found, row: Row) -> Result<bool, NoMemory>
     ensures rows { IfOk result (λ _. rows.new ≡ insert_key row_cmp rows.old row) }
-    ensures there { IfOk result (λ new. new ≡ false → joins.Has rows.old row) }
+    ensures there { IfOk result (λ new. new ≡ false → members.Has rows.old row) }
 {
     let before = rows.len();
     rows.add(alloc, row)?;
@@ -74,7 +75,7 @@ fn add_found(
         option_map_or (λ rows. rows) (hash.get joins.same_row found.new q) []
         ≡ cond (joins.same_row links q) (insert_key row_cmp (option_map_or (λ rows. rows) (hash.get joins.same_row found.old links) []) outs)
         (option_map_or (λ rows. rows) (hash.get joins.same_row found.old q) [])) }
-    ensures there { IfOk result (λ new. new ≡ false → joins.Has (option_map_or (λ rows. rows) (hash.get joins.same_row found.old links) []) outs) }
+    ensures there { IfOk result (λ new. new ≡ false → members.Has (option_map_or (λ rows. rows) (hash.get joins.same_row found.old links) []) outs) }
 {
     let mut rows = take_found(alloc, found, &links);
     let new = add_row(alloc, &mut rows, outs)?;

@@ -1,6 +1,6 @@
 ghost use Rattle.std.specs.Prelude.{◌≡◌, true, false, [], ◌∷◌, ◌++◌, OnOk, OnErr, IfOk, IsTrue};
 ghost use Rattle.sdd_lang.specs.All.{rows_lent};
-ghost use Rattle.sdd_exec.specs.Snapshots.{rows_for};
+ghost use Rattle.sdd_shipped.specs.Snapshots.{rows_for};
 
 use sdd_lang::{NoMemory, Row};
 use std::alloc::Global;
@@ -16,7 +16,7 @@ pub struct Snapshot {
 
 impl Model for Snapshot {
     ghost use Rattle.sdd_lang.specs.All.{Kept};
-    ghost use Rattle.sdd_exec.specs.Snapshots.{Shipped};
+    ghost use Rattle.sdd_shipped.specs.Snapshots.{Shipped};
 
     ghost Value = { Kept Shipped };
 

@@ -1,7 +1,7 @@
 //! What statements find in the rows of a snapshot.
 ghost use Rattle.std.specs.Prelude.{◌≡◌, ◌+◌, [], length, fold, IfOk};
 ghost use Rattle.sdd_lang.specs.All.{key_column, key_in, rows_lent};
-ghost use Rattle.sdd_exec.specs.Snapshots.{parts_for, found_for, chosen_for, with_chosen, of_relation};
+ghost use Rattle.sdd_shipped.specs.Snapshots.{parts_for, found_for, chosen_for, with_chosen, of_relation};
 
 use crate::joins::join;
 use crate::matched::Matched;

@@ -22,17 +22,15 @@ pub use Rattle.sdd_invariants.specs.Traffic.{class_in, hands_from, puts_to, time
 pub use Rattle.sdd_invariants.specs.Turns.{NoneHold, is_a_held, is_a_hold, is_a_release, one_if, tally, turn, turns}
 pub use Rattle.sdd_invariants.specs.Unspoilt.{AllUnspoilt, IsUnspoilt, IsWaiting, spoiling}
 pub use Rattle.sdd_log.proofs.EachLocal.{allowed_act, each_local}
-pub use Rattle.sdd_log.proofs.attempt.Phases.{own}
-pub use Rattle.sdd_log.proofs.attempt.Queueing.{other_way as flip}
+pub use Rattle.sdd_log.proofs.attempt.Numbers.{other_way as flip, own}
 pub use Rattle.sdd_log.proofs.dm.Prefix.{all_handed, all_there}
-pub use Rattle.sdd_log.proofs.dm.Stepped.{waits_own}
+pub use Rattle.sdd_log.proofs.dm.Acted.{waits_own}
 pub use Rattle.sdd_log.proofs.net.Lists.{get-append as in_left}
 pub use Rattle.sdd_log.proofs.net.Rises.{rises}
 pub use Rattle.sdd_log.proofs.net.Sound.{delivered_le, sound}
 pub use Rattle.sdd_log.proofs.pipe.Digests.{or_assoc}
 pub use Rattle.sdd_log.proofs.tm.Lists.{get_map as at_map, get_within as place_within, of_map as in_mapped}
-pub use Rattle.sdd_log.proofs.umod.Handing.{commits_same as hand_commits}
-pub use Rattle.sdd_log.proofs.umod.Turns.{counts_tm}
+pub use Rattle.sdd_log.proofs.umod.Counts.{commits_same as hand_commits, counts_tm}
 pub use Rattle.sdd_log.specs.All.{Act, Answer, Apply, Ask, Asking, Attempt, Bases, Call, Catalogue, Change, ClassNo, ClassView, Commit, Cond, D, Deliver, Delivers, Did, DmNo, Does, Done, Each, Entry, Era, Event, Exchange, FragNo, Hand, Handed, Held, Hold, HoldCounts, Home, Input, IsAllowed, IsDue, IsPermitted, Link, Mark, Msg, Notes, Null, Open, Pipe, Processes, Puts, Question, Queued, Read, Ready, Rec, Records, Redeclared, Redeclares, Reduced, Reject, Release, Resends, Sends, Served, Setting, Site, Start, Submit, Submits, Submitted, T, Tick, Ticking, TmCounts, TmNo, Ts, Txn, TxnNo, U, Use, Values, Write, act_by, act_where, active, active_after, active_handed, active_sent, after_hand, after_send, answer_of, answer_to, answered, ascending, ask_for, asks_rows, at_class, attempt_due, base_of, begins, by_ask, by_event, by_head, by_link, by_open, by_release, calls_of, class_asked, class_at, class_is, class_no, class_view, clock, commit_act, contains, counted, counts, counts_handed, current_era, delivered, dm_no, effect, empty_pipe, fetches_from, first_send, fragments_in, goes_on, goes_through, handed, hands, head, head_due, head_of, head_processed, hold_due, hold_to, holds, holds_acted, holds_back, holds_handed, home_of, is_asked_of, is_at_least, is_empty, is_for, is_held, is_holding, is_idle, is_met, is_new_mark, is_over, is_processing, is_wait, judged, last_served, last_write, last_write_for, link, link_of, local_of, lose, mark_due, message_at, module_read, modules_of, nth_era, null_at, number_of, numbers_to, on_hold, on_link, one_or_none, opens, opens_acted, or_else, or_zero, packet_at, passed, passed_by, pipe, piped, pushed_by, put, puts, queue, raised, redeclares, reduces, rejects, release_due, repeat, resend, runs, same_site, sends_of_act, sent, served_handed, setting_of, ships, source_of, spoils, started, step_on, submits, tail_of, takes_part, time_at, time_of, tm_no, to_all, touches, tried, turned, txn_at, txn_no, undeclared_conditions, uses_of, view_of, waits, was_marked, with_use, with_values, without, write_time, write_to}
 pub use Rattle.sdd_log.specs.site_module.SiteLog.{Log}
 pub use Rattle.sdd_log.specs.tm.Due.{by_exchange, by_hold, start_of}

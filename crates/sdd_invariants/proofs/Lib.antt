@@ -59,3 +59,4 @@ pub use Rattle.sdd_log.proofs.dm as dm
 pub use Rattle.sdd_log.proofs.tm as tm
 pub use Rattle.sdd_log.proofs.umod as umod
 pub use Rattle.sdd_log.proofs as logs
+pub use Rattle.sdd_log.proofs.site_rules as site_rules

@@ -23,7 +23,7 @@ pub use Rattle.sdd_invariants.specs.attempt.Clocks.{clock, pushed_by, ticked_by}
 pub use Rattle.sdd_invariants.specs.attempt.Exchange.{Asking, Exchange, Fetching, Over, Phase, Reading, Reducing, Shipping, after_hand, after_send, answered, begins, counted, counts_for, fetches, fetches_from, first_phase, first_send, goes_on, is_over, module_read, move_at, on_answer, phase_ends, reduces, send_due, ships, to_all, with_use, without}
 pub use Rattle.sdd_invariants.specs.attempt.Fits.{AnswersRead, Awaits, AwaitsAt, FitsReady, FitsRows, FitsSite, ServesIfLast, at_site, fetches_use, is_read, is_shipping, is_verdict, numbers_of, reduces_use, uses_asked, uses_at, uses_read}
 pub use Rattle.sdd_invariants.specs.attempt.Queues.{Queued, is_for, queue, submitted, tried}
-pub use Rattle.sdd_invariants.specs.attempt.Reads.{AreThere}
+pub use Rattle.sdd_log.specs.attempt.Acts.{AreThere}
 pub use Rattle.sdd_invariants.specs.attempt.Starts.{work_of}
 pub use Rattle.sdd_invariants.specs.base.Clock.{Ticking, bound_of, ticked, timestamp}
 pub use Rattle.sdd_invariants.specs.base.Numbers.{class_no, dm_no, frag_no, time_at, tm_no, txn_no}
@@ -59,7 +59,8 @@ pub use Rattle.sdd_invariants.specs.dm.Fits.{AreFor, Ascend, FitsChange, FitsCla
 pub use Rattle.sdd_invariants.specs.dm.Opens.{Open, class_asked, is_asked_of, is_number, is_read_of, opens, opens_acted, opens_handed}
 pub use Rattle.sdd_invariants.specs.dm.Pipes.{is_processing, is_wait, pipe, pipe_acted, waits}
 pub use Rattle.sdd_invariants.specs.dm.Views.{ClassView, Home, View, at_class, dated_in, home_of, source_of, view_of}
-pub use Rattle.sdd_invariants.specs.dm.declared.step.Step.TheVariants.{Processes, Refuses, Waits}
+pub use Rattle.sdd_log.specs.All.{Processes}
+pub use Rattle.sdd_log.specs.site_rules.declared.step.Step.TheVariants.{Refuses, Waits}
 pub use Rattle.sdd_invariants.specs.graph.Graph.{classes_of, fragments_of}
 pub use Rattle.sdd_invariants.specs.graph.declared.edge.Edge.{Edge}
 pub use Rattle.sdd_invariants.specs.graph.declared.edge.Edge.TheVariants.{Diagonal, Horizontal, Vertical}

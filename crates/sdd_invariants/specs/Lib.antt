@@ -37,3 +37,4 @@ pub use Rattle.sdd_log.specs.tm as tm
 pub use Rattle.sdd_log.specs.umod as umod
 pub use Rattle.sdd_log.specs.wire as wire
 pub use Rattle.sdd_semijoin.specs as semijoin
+pub use Rattle.sdd_log.specs.site_rules as site_rules

@@ -35,8 +35,8 @@ pub use Rattle.sdd_invariants.proofs.lang.SortedEntries.{each_inserted, item_cmp
 pub use Rattle.sdd_invariants.proofs.lang.StaysDatabase.{effect_changes, rows_make_database}
 pub use Rattle.sdd_invariants.proofs.logs.EachLocal.{allowed_act}
 pub use Rattle.sdd_invariants.proofs.logs.NewMarks.{lawful_permitted, left_is}
-pub use Rattle.sdd_invariants.proofs.logs.attempt.site_module.wire.Texts.{contains-true as number_member}
-pub use Rattle.sdd_invariants.proofs.logs.dm.Applied.{acted_more as applied_if}
+pub use Rattle.sdd_invariants.proofs.wire.Texts.{contains-true as number_member}
+pub use Rattle.sdd_invariants.proofs.dm.Acted.{acted_more as applied_if}
 pub use Rattle.sdd_invariants.proofs.logs.net.Lists.{get-append as in_left}
 pub use Rattle.sdd_invariants.proofs.logs.tm.Lists.{get_within as place_within, of_map as in_mapped}
 pub use Rattle.sdd_invariants.proofs.protocol.ConditionOn.{condition_class, condition_is}

@@ -1,9 +1,9 @@
 -- The names of std, of the crates below and of this crate's definitions that its proofs cite. Declares nothing.
-pub use Rattle.sdd_attempt.proofs.Queueing.{other_way as flip_same}
-pub use Rattle.sdd_attempt.proofs.site_module.Finding.{found_at, one_of}
-pub use Rattle.sdd_attempt.proofs.site_module.lang.catalog.Found.{both_empty}
-pub use Rattle.sdd_attempt.specs.All.{Act, AreDue, Bases, Catalogue, D, Deliver, Did, DmNo, Down, Each, Era, Event, Handed, Lose, MAX_LINK_MESSAGES, MAX_RUN_EVENTS, Msg, Redeclare, Redeclared, Repeat, Resend, Setting, Settle, Site, Submit, Submits, T, Tick, Ticked, Ticking, TmNo, Txn, TxnNo, U, Up, are_linked, first_some, is_empty, links, log_after, or_else, records_of, records_of_act, same_site, sends_of, sends_of_act, sites, tail_of, tm_no}
-pub use Rattle.sdd_dm.proofs.ByClass.{first_none as first_nowhere}
+pub use Rattle.sdd_rules.proofs.attempt.Numbers.{other_way as flip_same}
+pub use Rattle.sdd_rules.proofs.site_module.Finding.{found_at, one_of}
+pub use Rattle.sdd_rules.proofs.catalog.Found.{both_empty}
+pub use Rattle.sdd_rules.specs.All.{Act, AreDue, Bases, Catalogue, D, Deliver, Did, DmNo, Down, Each, Era, Event, Handed, Lose, MAX_LINK_MESSAGES, MAX_RUN_EVENTS, Msg, Redeclare, Redeclared, Repeat, Resend, Setting, Settle, Site, Submit, Submits, T, Tick, Ticked, Ticking, TmNo, Txn, TxnNo, U, Up, are_linked, first_some, is_empty, links, log_after, or_else, records_of, records_of_act, same_site, sends_of, sends_of_act, sites, tail_of, tm_no}
+pub use Rattle.sdd_rules.proofs.dm.ByClass.{first_none as first_nowhere}
 pub use Rattle.sdd_log.specs.Due.{does_at, due_by, hand_due, hand_number, hand_on, hand_with, home_of, mark_due, next, next_at, next_in, next_number, note_if, site_due}
 pub use Rattle.sdd_log.specs.Entries.{Does, Entry, Hand, Input, Log, Mark, Notes, Redeclares, Round, Submitted, history, marks, with_event}
 pub use Rattle.sdd_log.specs.Lawful.{EndsByLimit, IsLawful, IsTheLog, IsWithin, is_past, puts_past}
@@ -25,9 +25,9 @@ pub use Rattle.sdd_net.specs.Nets.{is_link, is_site}
 pub use Rattle.sdd_net.specs.declared.delivered.Delivered.TheVariants.{Acked, Messages, Nothing}
 pub use Rattle.sdd_net.specs.declared.packet.Packet.{Packet}
 pub use Rattle.sdd_net.specs.declared.packet.Packet.TheVariants.{Message}
-pub use Rattle.sdd_pipe.proofs.Digests.{or_assoc}
-pub use Rattle.sdd_tm.proofs.ViewSteps.{view_step}
-pub use Rattle.sdd_umod.proofs.Lists.{or_nothing as or_none}
+pub use Rattle.sdd_rules.proofs.pipe.Digests.{or_assoc}
+pub use Rattle.sdd_rules.proofs.tm.ViewSteps.{view_step}
+pub use Rattle.sdd_rules.proofs.umod.Lists.{or_nothing as or_none}
 pub use Rattle.std.proofs.Common.{All, Bool, List, None, Option, Some, [], ap, append-nil, append_assoc, arith, cond, drop, eq-eqb, eqb-true, false, filter_map, flat_map, if◌then◌else◌, inl, inr, is_none, le-leb, le-ltb, leb-true, length, length-append, length-drop, length-take-le, lt-ltb, ltb-false, ltb-true, map, nat_le, nat_lt, not, refl, replicate, slice_get, subst, suc, sym, take, true, zero, ℕ, ◌&&◌, ◌++◌, ◌+◌, ◌-◌, ◌<◌, ◌==◌, ◌||◌, ◌∙◌, ◌∷◌, ◌≡◌, ◌≤◌, ◌⊎◌}
 pub use Rattle.std.proofs.lemmas.Bool.{and_from, and_left, and_parts, and_right, or_parts as or_false}
 pub use Rattle.std.proofs.lemmas.List.{length-map, map-append}

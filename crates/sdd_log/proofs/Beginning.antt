@@ -3,12 +3,12 @@ use Rattle.sdd_log.proofs.All.{Act, Bases, Bool, D, Era, Input, List, None, Opti
 use Rattle.sdd_log.proofs.FirstHand.{none_to_hand}
 use Rattle.sdd_log.proofs.Ticking.{or_both}
 use Rattle.sdd_log.proofs.Completing.{next_is_mark}
-use Rattle.sdd_dm.specs.Views as dm_views
-use Rattle.sdd_dm.specs.Due as dm
-use Rattle.sdd_tm.specs.Views as tm_views
-use Rattle.sdd_tm.specs.Due as tm
-use Rattle.sdd_umod.specs.Views as um_views
-use Rattle.sdd_umod.specs.Due as um
+use Rattle.sdd_rules.specs.dm.Views as dm_views
+use Rattle.sdd_rules.specs.dm.Due as dm
+use Rattle.sdd_rules.specs.tm.Views as tm_views
+use Rattle.sdd_rules.specs.tm.Due as tm
+use Rattle.sdd_rules.specs.umod.Views as um_views
+use Rattle.sdd_rules.specs.umod.Due as um
 
 first_map : {A B C : Type 0} (f : B → Option C) (h : A → B) (xs : List A) → ((x : A) → f (h x) ≡ None) → first_some f (map h xs) ≡ None
 first_map f h [] k = refl

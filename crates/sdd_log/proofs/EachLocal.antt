@@ -1,7 +1,7 @@
 -- What holds of each entry of a site's log, wherever it may come, holds of the log that a permitted log gives the site.
 use Rattle.sdd_log.proofs.All.{Act, AreSubmittedOnce, Bool, Did, Does, Each, Entry, Era, Event, Hand, Handed, Input, IsAllowed, IsDueAt, IsLawful, IsPermitted, Log, Mark, Msg, None, Notes, Option, Redeclared, Redeclares, Site, Some, Submits, Submitted, T, Tick, Ticked, Txn, [], arith, beginning, due_by, false, if◌then◌else◌, local_of, mark_due, note_if, nth_era, redeclares, same_is, same_site, subst, suc, sym, true, txn_at, with_era, with_submit, ℕ, ◌∷◌, ◌≡◌}
 use Rattle.sdd_log.proofs.NewMarks.{lawful_permitted}
-use Rattle.sdd_attempt.specs.site_module.SiteLog as site
+use Rattle.sdd_rules.specs.site_module.SiteLog as site
 
 -- a mark makes due only a Submit or a Nothing
 abbrev is_note : Entry → Bool

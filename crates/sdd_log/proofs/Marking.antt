@@ -2,7 +2,7 @@
 use Rattle.sdd_log.proofs.All.{Act, AllHanded, Bases, Bool, Down, Era, Event, Input, IsMarked, List, Log, MAX_RUN_EVENTS, Mark, None, Notes, Option, Redeclares, Rests, Site, Some, T, Tick, Ticked, TmNo, Up, [], arith, base_of, delivered, does_at, due_by, false, first_some, if◌then◌else◌, is_past, le-ltb, link_of, local_of, marks, next, next_at, next_in, nth_era, redeclares, refl, same_is, same_site, setting_of, site_due, sites, suc, sym, takes_part, true, with_era, ℕ, ◌∙◌, ◌∷◌, ◌≡◌, ◌≤◌}
 use Rattle.sdd_log.proofs.Steps.{AllNone, all_none, none_any_base, none_more, none_same}
 use Rattle.sdd_log.proofs.Ticking.{none_by_redeclare, none_by_tick}
-use Rattle.sdd_attempt.specs.site_module.SiteLog as site
+use Rattle.sdd_rules.specs.site_module.SiteLog as site
 
 -- where the logs of the sites stay, or that of one gets a tick, nothing gets due
 

@@ -1,8 +1,8 @@
 -- A tick of a clock makes nothing due at its site, nor does another class list.
 use Rattle.sdd_log.proofs.All.{Bases, Bool, Catalogue, Era, List, None, Option, Redeclared, Setting, Some, Ticked, Ticking, [], ap, arith, first_some, if◌then◌else◌, list_all, nat_lt, or_else, or_none, refl, view_step, ℕ, ◌∙◌, ◌∷◌, ◌≡◌}
-use Rattle.sdd_attempt.specs.site_module.SiteLog as site
-use Rattle.sdd_tm.specs.Due as tm
-use Rattle.sdd_tm.specs.Views as views
+use Rattle.sdd_rules.specs.site_module.SiteLog as site
+use Rattle.sdd_rules.specs.tm.Due as tm
+use Rattle.sdd_rules.specs.tm.Views as views
 
 pub or_both : {A : Type 0} (x y : Option A) → x ≡ None → y ≡ None → or_else x y ≡ None
 or_both x y e f = rw e f

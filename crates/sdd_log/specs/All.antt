@@ -40,7 +40,7 @@ pub use Rattle.sdd_log.specs.dm.Due.{IsDue, act_by, act_where, answer_of, answer
 pub use Rattle.sdd_log.specs.dm.Opens.{Open, class_asked, is_asked_of, opens, opens_acted}
 pub use Rattle.sdd_log.specs.dm.Pipes.{is_processing, is_wait, pipe, pipe_acted, waits}
 pub use Rattle.sdd_log.specs.dm.Views.{ClassView, Home, View, at_class, class_view, dated_in, home_of, source_of, view_of}
-pub use Rattle.sdd_log.specs.dm.declared.step.Step.TheVariants.{Processes}
+pub use Rattle.sdd_rules.specs.declared.step.Step.TheVariants.{Processes}
 pub use Rattle.sdd_log.specs.history.declared.record.Rec.{Rec}
 pub use Rattle.sdd_log.specs.history.declared.record.Rec.TheVariants.{Answer, Apply, Arrive, Commit, Nothing, Pass, Start, Wait}
 pub use Rattle.sdd_log.specs.lang.Classes.{fragments_in}

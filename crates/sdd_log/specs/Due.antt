@@ -1,11 +1,11 @@
 -- The next entry of the log of everything.
 use Rattle.std.specs.Prelude.{ℕ, zero, suc, nat_lt, ◌==◌, Bool, not, if◌then◌else◌, ◌∷◌, is_none, Option, Some, None}
-use Rattle.sdd_attempt.specs.All.{Act, Bases, Catalogue, D, Deliver, Down, Event, Lose, Msg, Repeat, Resend, Site, Submit, T, Txn, U, Up, class_for, first_some, is_empty, or_else, sites}
-use Rattle.sdd_attempt.specs.site_module.SiteLog as site
+use Rattle.sdd_rules.specs.All.{Act, Bases, Catalogue, D, Deliver, Down, Event, Lose, Msg, Repeat, Resend, Site, Submit, T, Txn, U, Up, class_for, first_some, is_empty, or_else, sites}
+use Rattle.sdd_rules.specs.site_module.SiteLog as site
 use Rattle.sdd_net.specs.Links.{packet_at, unacked, delivered}
-use Rattle.sdd_dm.specs.Due as dm
-use Rattle.sdd_tm.specs.Due as tm
-use Rattle.sdd_umod.specs.Due as um
+use Rattle.sdd_rules.specs.dm.Due as dm
+use Rattle.sdd_rules.specs.tm.Due as tm
+use Rattle.sdd_rules.specs.umod.Due as um
 use Rattle.sdd_log.specs.Entries.{Entry, Mark, Hand, Submitted, Notes, Does, Log, Input}
 use Rattle.sdd_log.specs.Traffic.{link_of, handed, message_at, is_down, takes_part, all_links}
 use Rattle.sdd_log.specs.Locals.{redeclares, nth_era, txn_at, local_of, setting_of}

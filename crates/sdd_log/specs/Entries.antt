@@ -1,7 +1,7 @@
 -- The one log of everything, newest first, and its history.
 use Rattle.std.specs.Prelude.{ℕ, suc, List, [], ◌∷◌, ◌++◌, map}
-use Rattle.sdd_attempt.specs.All.{Act, Catalogue, Era, Event, History, Msg, Nothing, RelNo, Row, Site, Txn, records_of_act, txn_no}
-use Rattle.sdd_attempt.specs.history.declared.record.Rec.TheVariants.{Submit as Submission}
+use Rattle.sdd_rules.specs.All.{Act, Catalogue, Era, Event, History, Msg, Nothing, RelNo, Row, Site, Txn, records_of_act, txn_no}
+use Rattle.sdd_rules.specs.history.declared.record.Rec.TheVariants.{Submit as Submission}
 
 -- An entry. `Mark` is an event of the schedule or of a round; `Round` begins a round of these events; `Redeclares` puts
 -- the next class list in force at a time. `Hand a b n m` hands message n of the link from a to b over;

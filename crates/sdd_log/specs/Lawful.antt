@@ -1,6 +1,6 @@
 -- Which log is the log of what is given.
 use Rattle.std.specs.Prelude.{suc, nat_lt, ◌≡◌, Bool, true, false, ◌||◌, List, [], ◌∷◌, length, Some, None}
-use Rattle.sdd_attempt.specs.All.{MAX_LINK_MESSAGES, MAX_RUN_EVENTS, Msg, Site, sends_of_act}
+use Rattle.sdd_rules.specs.All.{MAX_LINK_MESSAGES, MAX_RUN_EVENTS, Msg, Site, sends_of_act}
 use Rattle.sdd_net.specs.Links.{Call, Puts, link}
 use Rattle.sdd_log.specs.Entries.{Input, Log, Entry, Mark, Redeclares, Does, marks}
 use Rattle.sdd_log.specs.Traffic.{calls_of}

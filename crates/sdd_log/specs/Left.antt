@@ -1,7 +1,7 @@
 -- What is ahead, as two lists: the events of the schedule that are left, and what is left of the round in progress. Not
 -- needed to read what the next entry of a log is: `Marks` says it, and `AsLists` of the proofs that both are the same.
 use Rattle.std.specs.Prelude.{Bool, true, false, List, [], ◌∷◌, Option, Some, None}
-use Rattle.sdd_attempt.specs.All.{Event, Redeclare, Settle, tail_of}
+use Rattle.sdd_rules.specs.All.{Event, Redeclare, Settle, tail_of}
 use Rattle.sdd_net.specs.Links.{quiet, round}
 use Rattle.sdd_log.specs.Entries.{Entry, Mark, Round, Redeclares, Log, Input}
 use Rattle.sdd_log.specs.Marks.{Ahead, BetweenRounds, InRound, from_event, greatest_bound}

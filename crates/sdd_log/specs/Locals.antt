@@ -1,7 +1,7 @@
 -- The log of each site, as the log of everything gives it.
 use Rattle.std.specs.Prelude.{ℕ, suc, ◌-◌, if◌then◌else◌, List, [], ◌∷◌, slice_get, slice_index_or, Option, Some, None}
-use Rattle.sdd_attempt.specs.All.{D, Did, Era, Event, Handed, IsTable, Redeclared, RelNo, Row, Setting, Site, Submits, T, Tick, Ticked, Txn, U, same_site}
-use Rattle.sdd_attempt.specs.site_module.SiteLog as site
+use Rattle.sdd_rules.specs.All.{D, Did, Era, Event, Handed, IsTable, Redeclared, RelNo, Row, Setting, Site, Submits, T, Tick, Ticked, Txn, U, same_site}
+use Rattle.sdd_rules.specs.site_module.SiteLog as site
 use Rattle.sdd_log.specs.Entries.{Input, Log, Mark, Redeclares, Hand, Submitted, Does}
 
 -- a class list is in force with the protocol table of its catalogue

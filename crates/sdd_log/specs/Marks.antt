@@ -1,7 +1,7 @@
 -- The next event: of the round in progress, or of the schedule. A `settle` or a `redeclare` is reached by rounds, until
 -- nothing is in flight and all messages are acknowledged; a `settle` that is reached has no mark of its own.
 use Rattle.std.specs.Prelude.{ℕ, max, if◌then◌else◌, List, [], ◌∷◌, map, fold, Option, Some, None}
-use Rattle.sdd_attempt.specs.All.{Event, Redeclare, Settle, T, bound_of, clock, numbers_to, tail_of, tm_no}
+use Rattle.sdd_rules.specs.All.{Event, Redeclare, Settle, T, bound_of, clock, numbers_to, tail_of, tm_no}
 use Rattle.sdd_net.specs.Links.{quiet, round}
 use Rattle.sdd_log.specs.Entries.{Entry, Mark, Round, Redeclares, Log, Input}
 use Rattle.sdd_log.specs.Traffic.{calls_of, all_links}

@@ -1,14 +1,14 @@
 -- Permitted logs: each entry is due, in whatever order. What holds of all of them is easier to prove than what holds of
 -- lawful logs, which are among them.
 use Rattle.std.specs.Prelude.{ℕ, suc, ◌+◌, ◌≤◌, ◌≡◌, ◌==◌, Bool, true, false, not, ◌||◌, List, [], ◌∷◌, Some}
-use Rattle.sdd_attempt.specs.All.{Act, D, Event, Msg, Site, Submit, T, U}
+use Rattle.sdd_rules.specs.All.{Act, D, Event, Msg, Site, Submit, T, U}
 use Rattle.sdd_net.specs.Links.{delivered}
-use Rattle.sdd_dm.specs.Views as dm_views
-use Rattle.sdd_dm.specs.Due as dm
-use Rattle.sdd_tm.specs.Views as tm_views
-use Rattle.sdd_tm.specs.Due as tm
-use Rattle.sdd_umod.specs.Views as um_views
-use Rattle.sdd_umod.specs.Due as um
+use Rattle.sdd_rules.specs.dm.Views as dm_views
+use Rattle.sdd_rules.specs.dm.Due as dm
+use Rattle.sdd_rules.specs.tm.Views as tm_views
+use Rattle.sdd_rules.specs.tm.Due as tm
+use Rattle.sdd_rules.specs.umod.Views as um_views
+use Rattle.sdd_rules.specs.umod.Due as um
 use Rattle.sdd_log.specs.Entries.{Input, Log, Entry, Mark, Round, Redeclares, Hand, Does}
 use Rattle.sdd_log.specs.Traffic.{link_of, handed, message_at, takes_part}
 use Rattle.sdd_log.specs.Locals.{local_of, setting_of}

@@ -1,6 +1,6 @@
 -- Logs at rest, and what an event needs.
 use Rattle.std.specs.Prelude.{ℕ, zero, suc, ◌+◌, ◌≤◌, ◌≡◌, true, false, List, [], ◌∷◌, ◌++◌, if◌then◌else◌, length, slice_get, None, Some}
-use Rattle.sdd_attempt.specs.All.{D, Deliver, Down, Event, Lose, MAX_RUN_EVENTS, MAX_TICKS, Msg, Redeclare, Repeat, Resend, Settle, Site, Submit, T, Tick, Txn, U, Up, same_site, sites}
+use Rattle.sdd_rules.specs.All.{D, Deliver, Down, Event, Lose, MAX_RUN_EVENTS, MAX_TICKS, Msg, Redeclare, Repeat, Resend, Settle, Site, Submit, T, Tick, Txn, U, Up, same_site, sites}
 use Rattle.sdd_net.specs.Links.{delivered}
 use Rattle.sdd_net.specs.Nets.{is_site, is_link}
 use Rattle.sdd_log.specs.Entries.{Input, Log, Mark, marks}

@@ -2,12 +2,12 @@
 -- just before its Answer there.
 use Rattle.std.specs.Prelude.{ℕ, ◌==◌, Bool, false, if◌then◌else◌, List, [], ◌∷◌, map, fold, Option, Some}
 use Rattle.std.specs.List.{flat_map}
-use Rattle.sdd_attempt.specs.All.{Answer, Bases, Catalogue, D, Database, Did, Item, Msg, Read, Records, Row, Setting, ascending, dm_no, fragment_at, fragments_in, numbers_to, with_row}
-use Rattle.sdd_attempt.specs.site_module.SiteLog as site
-use Rattle.sdd_copy.specs.Contents.{Dated, contents}
-use Rattle.sdd_pipe.specs.Pipe.{head}
-use Rattle.sdd_dm.specs.Pipes.{pipe}
-use Rattle.sdd_dm.specs.Copies.{dated}
+use Rattle.sdd_rules.specs.All.{Answer, Bases, Catalogue, D, Database, Did, Item, Msg, Read, Records, Row, Setting, ascending, dm_no, fragment_at, fragments_in, numbers_to, with_row}
+use Rattle.sdd_rules.specs.site_module.SiteLog as site
+use Rattle.sdd_rules.specs.copy.Contents.{Dated, contents}
+use Rattle.sdd_rules.specs.pipe.Pipe.{head}
+use Rattle.sdd_rules.specs.dm.Pipes.{pipe}
+use Rattle.sdd_rules.specs.dm.Copies.{dated}
 use Rattle.sdd_log.specs.Entries.{Input, Log}
 use Rattle.sdd_log.specs.Locals.{local_of, setting_of}
 

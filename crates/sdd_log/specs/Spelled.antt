@@ -1,7 +1,7 @@
 -- A network carries messages by their spellings. Its calls are those of the log, each message spelled, and so are its
 -- links: one map over the calls is the same map over the links.
 use Rattle.std.specs.Prelude.{List, map}
-use Rattle.sdd_attempt.specs.All.{Msg}
+use Rattle.sdd_rules.specs.All.{Msg}
 use Rattle.sdd_net.specs.declared.packet.Packet.{Packet}
 use Rattle.sdd_net.specs.declared.packet.Packet.TheVariants.{Message, Ack}
 use Rattle.sdd_net.specs.declared.delivered.Delivered.{Delivered}

@@ -1,6 +1,6 @@
 -- What is put on the links and handed over, as the log of everything gives it.
 use Rattle.std.specs.Prelude.{ℕ, ◌-◌, Bool, true, false, not, ◌&&◌, ◌||◌, if◌then◌else◌, List, [], ◌∷◌, slice_get, Option}
-use Rattle.sdd_attempt.specs.All.{D, Deliver, Down, Event, Lose, Msg, Repeat, Resend, Site, T, U, Up, links, same_site, sends_of_act}
+use Rattle.sdd_rules.specs.All.{D, Deliver, Down, Event, Lose, Msg, Repeat, Resend, Site, T, U, Up, links, same_site, sends_of_act}
 use Rattle.sdd_net.specs.Links.{Call, Puts, Delivers, Loses, Repeats, Resends, Link, link}
 use Rattle.sdd_log.specs.Entries.{Log, Mark, Hand, Does, Input}
 

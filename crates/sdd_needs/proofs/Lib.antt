@@ -14,3 +14,4 @@ pub use Rattle.sdd_log.proofs.net as net
 pub use Rattle.sdd_log.proofs.tm as tm
 pub use Rattle.sdd_log.proofs.wire as wire
 pub use Rattle.sdd_eras.proofs as class_eras
+pub use Rattle.sdd_log.proofs.site_rules as site_rules

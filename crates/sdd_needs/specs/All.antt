@@ -5,8 +5,8 @@ pub use Rattle.sdd_needs.specs.Obligations.{IsGood, good_input}
 pub use Rattle.sdd_needs.specs.attempt.Clocks.{clock}
 pub use Rattle.sdd_needs.specs.attempt.Fits.{FitsSite}
 pub use Rattle.sdd_needs.specs.attempt.Standings.{standing_among}
-pub use Rattle.sdd_needs.specs.attempt.declared.standing.Standing.TheVariants.{Absent}
-pub use Rattle.sdd_needs.specs.attempt.declared.standing.Standing.{Standing}
+pub use Rattle.sdd_log.specs.site_rules.declared.standing.Standing.TheVariants.{Absent}
+pub use Rattle.sdd_log.specs.site_rules.declared.standing.Standing.{Standing}
 pub use Rattle.sdd_needs.specs.base.Clock.{bound_of}
 pub use Rattle.sdd_needs.specs.base.Kept.{Kept}
 pub use Rattle.sdd_needs.specs.base.Numbers.{dm_no, frag_no, tm_no}
@@ -33,7 +33,7 @@ pub use Rattle.sdd_needs.specs.dm.Opens.{Open, is_asked_of}
 pub use Rattle.sdd_needs.specs.dm.Pipes.{is_processing, is_wait, pipe, waits}
 pub use Rattle.sdd_needs.specs.dm.Views.{ClassView, Home, View, home_of, view_of}
 pub use Rattle.sdd_needs.specs.dm.Waiting.{IsAwaited}
-pub use Rattle.sdd_needs.specs.dm.declared.step.Step.TheVariants.{Processes}
+pub use Rattle.sdd_log.specs.All.{Processes}
 pub use Rattle.sdd_needs.specs.history.Places.{IsSubmitted}
 pub use Rattle.sdd_needs.specs.history.Records.{History}
 pub use Rattle.sdd_needs.specs.history.declared.record.Rec.TheVariants.{Commit, Nothing}

@@ -19,3 +19,4 @@ pub use Rattle.sdd_log.specs.umod as umod
 pub use Rattle.sdd_log.specs.wire as wire
 pub use Rattle.sdd_copy.specs as copy
 pub use Rattle.sdd_eras.specs as class_eras
+pub use Rattle.sdd_log.specs.site_rules as site_rules

@@ -1,8 +1,8 @@
 -- The names of std, of the crates below and of this crate's definitions that its proofs cite. Declares nothing.
-pub use Rattle.sdd_exec.proofs.Members.{Has-append, Has-filter_map, Has-filter_map_from, Has-flat_map, Has-flat_map_from, Has-left, Has-map, Has-map_from, Has-right}
-pub use Rattle.sdd_exec.proofs.Serving.{each_has as each_of}
-pub use Rattle.sdd_exec.specs.Choices.{Has}
-pub use Rattle.sdd_exec.specs.Serves.{Serves}
+pub use Rattle.sdd_shipped.proofs.Members.{Has-append, Has-filter_map, Has-filter_map_from, Has-flat_map, Has-flat_map_from, Has-left, Has-map, Has-map_from, Has-right}
+pub use Rattle.sdd_shipped.proofs.Serving.{each_has as each_of}
+pub use Rattle.sdd_shipped.specs.Members.{Has}
+pub use Rattle.sdd_shipped.specs.Serves.{Serves}
 pub use Rattle.sdd_invariants.proofs.Active.{each_at, handed_way, sent_way, step_way, step_way_over}
 pub use Rattle.sdd_invariants.proofs.Answered.{answered_all, from_a_d, honest, put_in_by_d, read_of, same_head}
 pub use Rattle.sdd_invariants.proofs.Apart.{up_le as trans_le}
@@ -41,7 +41,7 @@ pub use Rattle.sdd_invariants.proofs.Times.{timed}
 pub use Rattle.sdd_invariants.proofs.Turns.{tally_append, tally_take}
 pub use Rattle.sdd_invariants.proofs.Undeclared.{never_spoilt, read_classes, zero_pair}
 pub use Rattle.sdd_invariants.proofs.WritesPut.{commit_puts}
-pub use Rattle.sdd_invariants.proofs.attempt.SoundLines.{start_modules}
+pub use Rattle.sdd_needs.proofs.attempt.Modules.{on_answer_modules as lack_modules, start_modules}
 pub use Rattle.sdd_invariants.proofs.attempt.Uses.{uses_there}
 pub use Rattle.sdd_invariants.proofs.catalog.Sound.{at_number, found_in_all, served_read, sound_classes, sound_whole}
 pub use Rattle.sdd_invariants.proofs.dm.Prefix.{all_there}
@@ -55,12 +55,11 @@ pub use Rattle.sdd_invariants.proofs.logs.NextMark.{mark_is_next}
 pub use Rattle.sdd_invariants.proofs.logs.Marking.{TurnsNone}
 pub use Rattle.sdd_invariants.proofs.logs.NewMarks.{lawful_permitted}
 pub use Rattle.sdd_invariants.proofs.logs.Rounding.{each_of_round}
-pub use Rattle.sdd_invariants.proofs.logs.attempt.Phases.{on_answer_modules as lack_modules, own as own_started}
-pub use Rattle.sdd_invariants.proofs.logs.attempt.Queueing.{other_way as not_same}
-pub use Rattle.sdd_invariants.proofs.logs.attempt.Waiting.{shorter as filter_shorter}
+pub use Rattle.sdd_needs.proofs.attempt.Numbers.{other_way as not_same, own as own_started}
+pub use Rattle.sdd_needs.proofs.attempt.Work.{shorter as filter_shorter}
 pub use Rattle.sdd_invariants.proofs.logs.net.Lists.{get-append as in_left}
 pub use Rattle.sdd_invariants.proofs.logs.tm.Lists.{get_map as at_map, get_within as place_within, of_map as in_mapped}
-pub use Rattle.sdd_invariants.proofs.logs.umod.Turns.{counts_tm}
+pub use Rattle.sdd_invariants.proofs.umod.Counts.{counts_tm}
 pub use Rattle.sdd_invariants.proofs.net.Directions.{link_back, link_parts}
 pub use Rattle.sdd_invariants.proofs.net.Lists.{All-at}
 pub use Rattle.sdd_invariants.proofs.net.Rounds.{links_exist}
@@ -82,18 +81,14 @@ pub use Rattle.sdd_laws.specs.All.{ArePlaced, CopyRows, Dated, Frozen, IsEraOf, 
 pub use Rattle.sdd_needs.specs.AfterEvents.{down_from, is_down_after, redeclares_in}
 pub use Rattle.sdd_obligations.specs.Awaited.{AwaitsRows, IsAwaited, IsReadable, IsServable}
 pub use Rattle.sdd_obligations.specs.Bounds.{IsNumbered, IsSmall, class_starts, greatest_height, most_classes, most_sites, start_of_class}
-pub use Rattle.sdd_needs.specs.Inputs.{AllFewTicks}
+pub use Rattle.sdd_needs.specs.Inputs.{AllFewTicks, FitsInput, FitsText, HasEras, IsGoodInput, ticks_of}
 pub use Rattle.sdd_obligations.specs.Contents.{AsksPhase, Tells, held_for, is_shipped, kept, question, question_of}
 pub use Rattle.sdd_obligations.specs.Fitting.{AreWritten, IsItemChange}
-pub use Rattle.sdd_needs.specs.Inputs.{FitsInput, FitsText}
 pub use Rattle.sdd_obligations.specs.Heights.{AllLow, HandsLow, IsLow, IsUnder, height, starts_by, times_of, top}
-pub use Rattle.sdd_needs.specs.Inputs.{ticks_of}
 pub use Rattle.sdd_needs.specs.Obligations.{Obligations}
 pub use Rattle.sdd_obligations.specs.Reading.{before_answer, copies_read}
-pub use Rattle.sdd_needs.specs.Inputs.{HasEras}
 pub use Rattle.sdd_obligations.specs.ServedRows.{IsServedAt, ServedBy}
 pub use Rattle.sdd_needs.specs.Fitting.{FitsEra, fits_submit}
-pub use Rattle.sdd_needs.specs.Inputs.{IsGoodInput}
 pub use Rattle.sdd_obligations.specs.Routes.{GoesTo, IsAnAsk, IsD, IsRouted, IsRunner, IsT}
 pub use Rattle.sdd_obligations.specs.Runnable.{IsRunnable}
 pub use Rattle.sdd_obligations.specs.Stages.{IsStage, agreed, answer_goes, flight, question_goes}

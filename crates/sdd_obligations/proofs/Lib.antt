@@ -98,3 +98,5 @@ pub use Rattle.sdd_laws.proofs as laws
 pub use Rattle.sdd_invariants.proofs.logs as logs
 pub use Rattle.sdd_invariants.proofs as invariants
 pub use Rattle.sdd_needs.proofs as needs
+pub use Rattle.sdd_shipped.proofs as shipped
+pub use Rattle.sdd_invariants.proofs.site_rules as site_rules

@@ -5,7 +5,7 @@ use Rattle.sdd_needs.proofs.OfNext.{IsThere, OfNext, of_next}
 use Rattle.sdd_obligations.proofs.Going.{in_made, was_asked_of}
 use Rattle.sdd_obligations.proofs.Near.{AllNear, HasNear, IsNear, SendsNear, active_near, modules_near}
 use Rattle.sdd_obligations.proofs.Submitting.{le_true}
-use Rattle.sdd_invariants.specs.dm.declared.step.Step.{Step}
+use Rattle.sdd_needs.specs.site_rules.declared.step.Step.{Step}
 use Rattle.sdd_invariants.specs.dm.Due as dm
 use Rattle.sdd_invariants.specs.tm.Due as tm
 use Rattle.sdd_invariants.specs.tm.Views as tm_views

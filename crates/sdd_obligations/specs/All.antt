@@ -1,7 +1,6 @@
 -- The names of this crate and of those below it that the crates above cite, passed on from one place. Declares nothing.
 pub use Rattle.sdd_needs.specs.AfterEvents.{is_down_after, redeclares_in}
-pub use Rattle.sdd_needs.specs.Inputs.{AllFewTicks}
-pub use Rattle.sdd_needs.specs.Inputs.{FitsInput, FitsText}
+pub use Rattle.sdd_needs.specs.Inputs.{AllFewTicks, FitsInput, FitsText}
 pub use Rattle.sdd_needs.specs.Obligations.{IsGood, good_input}
 pub use Rattle.sdd_needs.specs.Fitting.{FitsEra, Fitting, FittingSubmit, fits, fits_at, fits_submit, fits_submit_at, fits_tick}
 pub use Rattle.sdd_obligations.specs.Stages.{IsStage, agreed, answer_goes, flight, question_goes}
@@ -13,8 +12,7 @@ pub use Rattle.sdd_obligations.specs.attempt.Exchange.{Asking, Exchange, Fetchin
 pub use Rattle.sdd_obligations.specs.attempt.Fits.{is_read, uses_at}
 pub use Rattle.sdd_obligations.specs.attempt.Queues.{Queued, is_for, queue, tried}
 pub use Rattle.sdd_obligations.specs.attempt.Standings.{standing_among}
-pub use Rattle.sdd_obligations.specs.attempt.declared.standing.Standing.{Standing}
-pub use Rattle.sdd_obligations.specs.attempt.declared.standing.Standing.TheVariants.{Absent}
+pub use Rattle.sdd_needs.specs.All.{Absent, Standing}
 pub use Rattle.sdd_obligations.specs.base.Clock.{bound_of}
 pub use Rattle.sdd_obligations.specs.base.Kept.{Kept}
 pub use Rattle.sdd_obligations.specs.base.Numbers.{class_no, dm_no, frag_no, rel_no, time_at, tm_no, txn_no}
@@ -54,7 +52,7 @@ pub use Rattle.sdd_obligations.specs.dm.Opens.{Open, class_asked, is_asked_of, i
 pub use Rattle.sdd_obligations.specs.dm.Pipes.{is_processing, is_wait, pipe, waits}
 pub use Rattle.sdd_obligations.specs.dm.Views.{ClassView, Home, View, home_of, source_of, view_of}
 pub use Rattle.sdd_obligations.specs.dm.Waiting.{IsAwaited}
-pub use Rattle.sdd_obligations.specs.dm.declared.step.Step.TheVariants.{Processes}
+pub use Rattle.sdd_invariants.specs.All.{Processes}
 pub use Rattle.sdd_obligations.specs.graph.Edges.{IsClassOf, IsEdgeOf, ReadsFrom}
 pub use Rattle.sdd_obligations.specs.graph.Graph.{classes_of, conflict_graph, diagonal_edges, ends, fragments_of, horizontal_edges, read_node, vertical_edges, write_node}
 pub use Rattle.sdd_obligations.specs.graph.declared.edge.Edge.{Edge}
@@ -138,7 +136,7 @@ pub use Rattle.sdd_obligations.specs.serial_orders.Places.{IsRecordAt, event_at,
 pub use Rattle.sdd_obligations.specs.serial_orders.Precedence.{HasNoCycle, is_apply}
 pub use Rattle.sdd_obligations.specs.site_module.SiteLog.{Act, AreDue, Bases, Did, Each, Era, Handed, Records, Redeclared, Sends, Setting, Submits, Ticked, answers_hand, current_era, hands, log_after, records_of, records_of_act, sends_of, sends_of_act}
 pub use Rattle.sdd_obligations.specs.tm.Due.{by_ask, exchange_due, held_due, null_at, null_due, null_time, null_to, start_due, start_of}
-pub use Rattle.sdd_obligations.specs.tm.Represents.{AreOpen, Rise}
+pub use Rattle.sdd_needs.specs.tm.OpenAsks.{AreOpen, Rise}
 pub use Rattle.sdd_obligations.specs.tm.State.{ClassState, state_of}
 pub use Rattle.sdd_obligations.specs.tm.Views.{Question, asks, asks_acted, asks_handed, class_view, holds, on_hold, runs}
 pub use Rattle.sdd_obligations.specs.umod.Due.{by_exchange, by_hold, by_release, by_start, hold_to}

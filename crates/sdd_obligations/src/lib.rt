@@ -17,8 +17,7 @@ pub mod shipped_laws;
 
 // What lies below, for the crates above.
 pub use sdd_invariants::{
-    Answer, Asked, Catalogue, Change, ClassNo, ClassNos, ClassRun, Conds, DataModule, DmNo, Event,
-    FragNo, Line, Listed, Msg, NoMemory, Packet, Packets, Pages, Parcel, Rec, Row, Site, Spelling,
-    Table, TmNo, Ts, TxnModule, TxnNo, UModule, table,
+    Catalogue, Change, ClassNo, Conds, DmNo, Event, FragNo, Listed, Msg, NoMemory, Packet, Packets,
+    Pages, Parcel, Rec, Row, Site, Spelling, Table, TmNo, Ts, TxnNo, table,
 };
 pub use sdd_laws::{Copies, serial_order};

@@ -38,7 +38,7 @@ pub use Rattle.sdd_obligations.proofs.graph.Known.{edges_known}
 pub use Rattle.sdd_obligations.proofs.logs.EachLocal.{allowed_act}
 pub use Rattle.sdd_obligations.proofs.logs.NewMarks.{lawful_permitted}
 pub use Rattle.sdd_obligations.proofs.logs.Steps.{none_does as no_act, none_in}
-pub use Rattle.sdd_obligations.proofs.logs.attempt.exec.Complete.{or_false as only_one}
+pub use Rattle.sdd_progress.proofs.All.{only_one}
 pub use Rattle.sdd_obligations.proofs.logs.net.Lists.{get-append as in_left}
 pub use Rattle.sdd_obligations.proofs.logs.tm.Lists.{get_map as at_map, get_within as place_within, of_map as in_mapped}
 pub use Rattle.sdd_obligations.proofs.logs.umod.Lists.{or_nothing as neither_some}

@@ -29,7 +29,7 @@ pub use Rattle.sdd_obligations.proofs.invariants.logs.Marking.{no_redeclare, par
 pub use Rattle.sdd_obligations.proofs.invariants.logs.Steps.{none_does as no_act}
 pub use Rattle.sdd_obligations.proofs.invariants.logs.tm.Lists.{of_map as in_mapped}
 pub use Rattle.sdd_obligations.proofs.invariants.logs.umod.Lists.{or_nothing as or_none}
-pub use Rattle.sdd_obligations.proofs.invariants.logs.umod.Turns.{counts_tm}
+pub use Rattle.sdd_obligations.proofs.umod.Counts.{counts_tm}
 pub use Rattle.sdd_obligations.proofs.lang.StaysDatabase.{no_database, rows_make_database}
 pub use Rattle.sdd_obligations.proofs.laws.Members.{Contains-from_filter, Contains-from_filter_map, Contains-from_flat_map, Contains-from_map}
 pub use Rattle.sdd_obligations.proofs.laws.SameCopies.{equal_copies}
@@ -51,13 +51,12 @@ pub use Rattle.sdd_obligations.proofs.Modules.{firsts, to_module}
 pub use Rattle.sdd_obligations.specs.needs.AfterEvents.{down_from}
 pub use Rattle.sdd_obligations.specs.All.{Act, AllFewTicks, Answer, AreAllApplied, AreSubmittedOnce, Catalogue, Class, ClassNo, ClassState, Commit, Committed, Cond, Condition, D, Deliver, DmNo, Does, Down, EndsByLimit, Era, Eras, Event, FitsCondition, FitsInput, FitsStart, FitsStatement, FragNo, Hand, HasCommit, History, Input, IsAttempt, IsAwaited, IsClass, IsClassOf, IsCommitted, IsDatabase, IsEra, IsEraOf, IsGood, IsHeld, IsLawful, IsModule, IsOrderable, IsPermitted, IsPossible, IsRecordAt, IsSerial, IsSoundCatalogue, IsSubmitted, IsTable, IsTheLog, KeepsStarts, Kept, Log, Lose, MAX_DMS, MAX_TMS, Mark, Msg, Notes, Nothing, PutsHeld, Queued, Read, Rec, Records, Redeclare, Redeclares, Reject, RelNo, Repeat, Reply, Resend, Rests, Round, Row, Setting, Settle, Site, Standing, Stmt, Submitted, T, Tick, TmCounts, Ts, Txn, TxnNo, U, Up, Use, Wait, active, after_mark, all_links, are_linked, attempt_due, attempt_of, base_of, by_event, by_mark, calls_of, class_at, class_no, committed, contains, contents, counts, database_of, dated, dm_no, due_by, event_at, hand_due, hand_on, has_copy, head, head_of, history, home, is_apply, is_empty, is_link, is_over, is_site, last_served, left, link_of, local_of, mark_from, mark_of, marks, next, next_at, note_if, nth_era, numbers_to, one_if, pipe_at, placed, queue, quiet, redeclares, redeclares_in, rows_of, run, runs, send_due, setting_of, site_due, standing_among, standing_in, submits_in, time_at, tm_no, turn_at, txn_at, txn_no, with_event}
 pub use Rattle.sdd_obligations.specs.Bounds.{IsSmall}
-pub use Rattle.sdd_obligations.specs.needs.Inputs.{ticks_of}
-pub use Rattle.sdd_obligations.specs.needs.Inputs.{HasEras}
-pub use Rattle.sdd_obligations.specs.attempt.Lines.{Line}
+pub use Rattle.sdd_obligations.specs.needs.Inputs.{HasEras, ticks_of}
+pub use Rattle.sdd_obligations.specs.attempt.Line.{Line}
 pub use Rattle.sdd_obligations.specs.attempt.Standings.{lower, lowest, or_standing, queued_at, site_of, standing_by, standing_of, underway, waiting}
 pub use Rattle.sdd_obligations.specs.base.declared.limits.TheConstants.{MAX_TICKS}
 pub use Rattle.sdd_obligations.specs.copy.Contents.{Dated}
-pub use Rattle.sdd_obligations.specs.dm.State.{State}
+pub use Rattle.sdd_world.specs.data_module.State.{State}
 pub use Rattle.sdd_obligations.specs.dm.Waiting.{conds_of, waiting_at}
 pub use Rattle.sdd_obligations.specs.history.declared.record.Rec.TheVariants.{Submit}
 pub use Rattle.sdd_obligations.specs.lang.Database.{Item}
@@ -74,7 +73,7 @@ pub use Rattle.sdd_obligations.specs.serial_orders.Places.{record_at}
 pub use Rattle.sdd_obligations.specs.serial_orders.Precedence.{precedes}
 pub use Rattle.sdd_obligations.specs.serial_orders.SerialOrder.{serial_order}
 pub use Rattle.sdd_obligations.specs.tm.State.{class_of}
-pub use Rattle.sdd_obligations.specs.umod.Steps.{tm_of}
+pub use Rattle.sdd_obligations.specs.umod.Views.{tm_of}
 pub use Rattle.sdd_obligations.specs.dm.Views.{ClassView, View, view_of}
 pub use Rattle.sdd_obligations.specs.dm.Due.{is_met}
 pub use Rattle.sdd_obligations.specs.pipe.Pipe.{passed}

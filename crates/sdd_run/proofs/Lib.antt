@@ -41,3 +41,7 @@ pub use Rattle.sdd_report.proofs as report
 pub use Rattle.sdd_make.proofs as make
 pub use Rattle.sdd_progress.proofs as progress
 pub use Rattle.sdd_world.proofs as world
+pub use Rattle.sdd_world.proofs.attempts as attempts
+pub use Rattle.sdd_world.proofs.data_module as data_module
+pub use Rattle.sdd_world.proofs.txn_module as txn_module
+pub use Rattle.sdd_world.proofs.u_module as u_module

@@ -5,7 +5,7 @@ use Rattle.sdd_obligations.specs.All.{Attempt, IsFrom1To}
 use Rattle.sdd_progress.specs.Quiet.{at_home}
 use Rattle.sdd_obligations.proofs.AtTurn.{IsAtTurn}
 use Rattle.sdd_obligations.proofs.invariants.logs.tm.Lists.{get_map as at_map}
-use Rattle.sdd_obligations.specs.attempt.declared.standing.Standing.TheVariants as standings
+use Rattle.sdd_obligations.specs.site_rules.declared.standing.Standing.TheVariants as standings
 use Rattle.sdd_obligations.specs.tm.Due as tm
 use Rattle.sdd_obligations.specs.tm.State as tm_states
 use Rattle.sdd_obligations.specs.tm.Views as tm_views

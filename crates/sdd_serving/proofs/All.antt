@@ -1,7 +1,7 @@
 -- The names of std, of the crates below and of this crate's definitions that its proofs cite. Declares nothing.
-pub use Rattle.sdd_attempt.proofs.exec.Members.{Has-append, Has-filter, Has-filter_from, Has-filter_map, Has-filter_map_from, Has-flat_map, Has-flat_map_from, Has-left, Has-map, Has-map_from, Has-right}
-pub use Rattle.sdd_attempt.proofs.exec.Serving.{served_effect}
-pub use Rattle.sdd_attempt.specs.All.{AreEnough, AreEnoughAlong, Asking, Catalogue, Condition, Database, Delete, Exchange, Fetching, FitsCondition, FitsStatement, FitsTxn, FragNo, Has, IsDatabase, IsEntry, IsRelation, IsRowOf, IsSoundCatalogue, Item, Join, Move, Msg, Over, Phase, Put, Query, Queued, Reading, Ready, Reduced, Reducing as Cutting, RelNo, Row, Rows, Serves, Shipped, Shipping, Site, Step, Stmt, Tuple, Txn, Update, Use, Values, after_hand, after_send, answered, asking_of, askings, better, chosen_for, contains, counted, counts_for, fetches, fetches_from, fewest, first_phase, first_some, found_for, fragment_at, fragment_of, fragments_for, goes_on, is_candidate, joins_from, module_read, move_at, moves, moves_by, next_move, numbers_to, on_answer, or_else, part_of, phase_ends, product, read_to, reads_at, rel_of, restrictions_of, rows_at, statement_uses, use_at, use_there, uses_from, uses_in, uses_of, with_frags, with_use, without}
+pub use Rattle.sdd_rules.proofs.shipped.Members.{Has-append, Has-filter, Has-filter_from, Has-filter_map, Has-filter_map_from, Has-flat_map, Has-flat_map_from, Has-left, Has-map, Has-map_from, Has-right}
+pub use Rattle.sdd_rules.proofs.shipped.Serving.{served_effect}
+pub use Rattle.sdd_rules.specs.All.{AreEnough, AreEnoughAlong, Asking, Catalogue, Condition, Database, Delete, Exchange, Fetching, FitsCondition, FitsStatement, FitsTxn, FragNo, Has, IsDatabase, IsEntry, IsRelation, IsRowOf, IsSoundCatalogue, Item, Join, Move, Msg, Over, Phase, Put, Query, Queued, Reading, Ready, Reduced, Reducing as Cutting, RelNo, Row, Rows, Serves, Shipped, Shipping, Site, Step, Stmt, Tuple, Txn, Update, Use, Values, after_hand, after_send, answered, asking_of, askings, better, chosen_for, contains, counted, counts_for, fetches, fetches_from, fewest, first_phase, first_some, found_for, fragment_at, fragment_of, fragments_for, goes_on, is_candidate, joins_from, module_read, move_at, moves, moves_by, next_move, numbers_to, on_answer, or_else, part_of, phase_ends, product, read_to, reads_at, rel_of, restrictions_of, rows_at, statement_uses, use_at, use_there, uses_from, uses_in, uses_of, with_frags, with_use, without}
 pub use Rattle.sdd_laws.proofs.CopyEntries.{entries_ascend, lies_there}
 pub use Rattle.sdd_laws.proofs.Gathered.{gathered_from, gathered_there}
 pub use Rattle.sdd_laws.proofs.LookUps.{one_entry, sorted_cons}

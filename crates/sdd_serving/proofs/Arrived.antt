@@ -1,7 +1,7 @@
 -- In which order the rows arrive doesn't matter.
 use Rattle.sdd_serving.proofs.All.{AreEnough, AreEnoughAlong, Catalogue, Database, Has, List, Row, Serves, Shipped, Stmt, Txn, [], arith, nat_tests, part_of, uses_in, ℕ, ◌+◌, ◌∷◌}
 use Rattle.sdd_serving.proofs.Held.{use_row, row_of_use}
-use Rattle.sdd_attempt.specs.All.{rows_for}
+use Rattle.sdd_rules.specs.All.{rows_for}
 
 module _ (few many : Shipped) (go : (s : ℕ × Row) → Has few s → Has many s) where
   moved : (n : ℕ) (row : Row) → Has (rows_for few n) row → Has (rows_for many n) row

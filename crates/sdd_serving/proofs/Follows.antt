@@ -1,6 +1,6 @@
 -- The exchange of an attempt, entry by entry, follows a run.
 use Rattle.sdd_serving.proofs.All.{Asking, AwaitsNoValues, Bool, Catalogue, Condition, Cutting, Delete, Exchange, Fetching, Follows, Has, Has-append, Has-filter_from, Has-filter_map, Has-map, IsMoveAlong, IsMoveOf, List, Move, Msg, None, Option, Over, Phase, Put, Query, Queued, Reading, Ready, Reduced, Resting, Rows, Runs, Shipping, Site, Some, Space, Stage, Step, Stmt, Suits, Telling, TellsAll, Update, Use, Value, Values, [], after_hand, after_send, answered, ap, arith, asked_at, asking_of, askings, asks as run_asks, begins as run_begins, better, cond, contains, counted, counts_for, false, fetches, fetches_from, fewest, filter, filter_map, first_phase, goes_on, if◌then◌else◌, inl, inr, is_candidate, length, map, module_read, move_at, moves, names_use, nat_lt, nat_tests, next_move, on_answer, phase_ends, read_to, reduced, reduces as run_reduces, refl, rests as run_rests, rows_at, sends as run_sends, stage_with, subst, sym, tells as run_tells, true, uses_at, uses_in, uses_of, with_use, with_values, without, ℕ, ◌&&◌, ◌++◌, ◌+◌, ◌==◌, ◌||◌, ◌∙◌, ◌∷◌, ◌≡◌, ◌≢◌}
-use Rattle.sdd_attempt.specs.All.{begins}
+use Rattle.sdd_rules.specs.All.{begins}
 use Rattle.sdd_laws.specs.protocol.declared.entry.Entry as line
 
 -- moves that are chosen

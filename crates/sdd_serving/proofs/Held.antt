@@ -1,6 +1,6 @@
 -- Which rows are held after a reduction, and which are shipped.
 use Rattle.sdd_serving.proofs.All.{Bool, Frozen, Has, Has-filter, Has-filter_from, Has-filter_map, Has-filter_map_from, Has-flat_map, Has-flat_map_from, Has-map, Has-map_from, IsHeldAt, List, Row, Space, Value, all_held, all_rows, arith, column, false, filter, if◌then◌else◌, is_among, map, nat_tests, reduced, refl, subst, sym, true, ℕ, ◌==◌, ◌∙◌, ◌≡◌}
-use Rattle.sdd_attempt.specs.All.{rows_for}
+use Rattle.sdd_rules.specs.All.{rows_for}
 
 -- the rows of a use, as they are kept
 abbrev pub Kept : Type 0

@@ -1,7 +1,7 @@
 -- The exchange of an attempt follows a run.
 use Rattle.std.specs.Prelude.{ℕ, ◌==◌, ◌≡◌, Bool, true, ◌&&◌, List}
 use Rattle.sdd_laws.specs.All.{Stmt, Value}
-use Rattle.sdd_attempt.specs.All.{Asking, Exchange, Fetching, Has, Move, Msg, Over, Phase, Reading, Ready, Reduced, Reducing as Cutting, Rows, Shipping, Values, askings, with_use}
+use Rattle.sdd_rules.specs.All.{Asking, Exchange, Fetching, Has, Move, Msg, Over, Phase, Reading, Ready, Reduced, Reducing as Cutting, Rows, Shipping, Values, askings, with_use}
 use Rattle.sdd_serving.specs.Reducing.{Space, TellsAll}
 use Rattle.sdd_serving.specs.Runs.{Stage, Runs}
 use Rattle.sdd_serving.specs.Runs.Stage.{Resting, Telling, Reducing}

@@ -2,7 +2,7 @@
 use Rattle.std.specs.Prelude.{ℕ, ◌==◌, ◌≡◌, Bool, true, List, filter_map}
 use Rattle.std.specs.List.{list_any}
 use Rattle.sdd_laws.specs.All.{Catalogue, CopyRows, Database, FragNo, IsDatabase, Txn, Use, entries_of, frozen_for, is_read_at, rows_in_fragment, uses_of}
-use Rattle.sdd_attempt.specs.All.{Has, use_there}
+use Rattle.sdd_rules.specs.All.{Has, use_there}
 use Rattle.sdd_serving.specs.Reducing.{Space}
 
 -- the uses in the READ of an attempt of class c to module d

@@ -2,7 +2,7 @@
 use Rattle.std.specs.Prelude.{ℕ, ◌+◌, ◌≡◌, ◌⊎◌, Bool, true, false, List, [], ◌∷◌, refl}
 use Rattle.std.specs.List.{flat_map}
 use Rattle.sdd_laws.specs.All.{Condition, Delete, Frozen, Put, Query, Ref, Row, Stmt, Update, Value, all_rows, column, is_among, uses_in}
-use Rattle.sdd_attempt.specs.All.{Has, Join, Move, Shipped, move_at, moves, moves_by}
+use Rattle.sdd_rules.specs.All.{Has, Join, Move, Shipped, move_at, moves, moves_by}
 
 -- what each module holds frozen, by its number
 abbrev pub Space : Type 0

@@ -2,7 +2,7 @@
 -- none is missing, modules of the target are reduced by all these values, in any order; then the next move may begin.
 use Rattle.std.specs.Prelude.{ℕ, ◌≡◌, ◌≢◌, Bool, true, List, []}
 use Rattle.sdd_laws.specs.All.{Stmt, Value, is_empty, reduced, with_values}
-use Rattle.sdd_attempt.specs.All.{Has, Move, without}
+use Rattle.sdd_rules.specs.All.{Has, Move, without}
 use Rattle.sdd_serving.specs.Reducing.{Space, IsMoveAlong, TellsAll}
 
 -- Between moves; or values of the move's source are sent, where some modules' answers are missing and these values came;

@@ -1,6 +1,5 @@
 -- What the module keeps of the log after each act: that of one class changes, as its step says.
-use Rattle.sdd_tm.proofs.All.{Act, Asked, Attempt, ClassState, D, Did, HoldCounts, IsApart, IsRequest, List, Log, Msg, None, Null, Option, Question, Queued, Rec, Records, Sends, Setting, Site, Some, State, Ticking, [], active, active_after, active_apart, active_sent, ap, arith, asks, asks_acted, asks_apart, asks_of, asks_rows, can_answer, class_no, class_of, class_view, clock, dm_no, false, filter, holds, holds_acted, line_after, not, queue, queue_after, queue_apart, refl, rules, runs, sent_apart, slice_get, slice_set, state_of, sym, ticked_by, time_at, true, view_of, without_first, ℕ, ◌∙◌, ◌∷◌, ◌≡◌, ◌≢◌}
-use Rattle.sdd_tm.proofs.Lists.{map_is_set}
+use Rattle.sdd_tm.proofs.All.{Act, Asked, Attempt, ClassState, D, Did, HoldCounts, IsApart, IsRequest, List, Log, Msg, None, Null, Option, Question, Queued, Rec, Records, Sends, Setting, Site, Some, State, Ticking, [], active, active_after, active_apart, active_sent, ap, arith, asks, asks_acted, asks_apart, asks_of, asks_rows, can_answer, class_no, class_of, class_view, clock, dm_no, false, filter, holds, holds_acted, line_after, map_is_set, not, queue, queue_after, queue_apart, refl, rules, runs, sent_apart, slice_get, slice_set, state_of, sym, ticked_by, time_at, true, view_of, without_first, ℕ, ◌∙◌, ◌∷◌, ◌≡◌, ◌≢◌}
 use Rattle.sdd_tm.proofs.ClassNumbers.{runs_apart}
 use Rattle.sdd_tm.proofs.OpenAsks.{IsFirst}
 

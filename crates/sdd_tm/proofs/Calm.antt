@@ -1,6 +1,5 @@
 -- The classes are gone through by one place that only goes on: what a class does disturbs no other, and leaves less to do.
-use Rattle.sdd_tm.proofs.All.{AreSettled, Bases, ClassState, IsCalm, None, Some, State, Step, arith, class_step, rules, slice_get, start_step, state_done, ℕ, ◌+◌, ◌<◌, ◌≡◌, ◌≤◌}
-use Rattle.sdd_tm.proofs.Lists.{get_set_other}
+use Rattle.sdd_tm.proofs.All.{AreSettled, Bases, ClassState, IsCalm, None, Some, State, Step, arith, class_step, get_set_other, rules, slice_get, start_step, state_done, ℕ, ◌+◌, ◌<◌, ◌≡◌, ◌≤◌}
 use Rattle.sdd_tm.proofs.Dues.{none_parts}
 
 -- a class makes a step

@@ -1,6 +1,5 @@
 -- The classes that a module runs: each number once, and each the number of a class.
-use Rattle.sdd_tm.proofs.All.{Bool, List, Setting, Some, [], ap, arith, filter, length, range_with_len, refl, runs, slice_get, suc, zero, ℕ, ◌+◌, ◌<◌, ◌∷◌, ◌≡◌, ◌≢◌, ◌≤◌}
-use Rattle.sdd_tm.proofs.Lists.{some_is}
+use Rattle.sdd_tm.proofs.All.{Bool, List, Setting, Some, [], ap, arith, filter, length, range_with_len, refl, runs, slice_get, some_is, suc, zero, ℕ, ◌+◌, ◌<◌, ◌∷◌, ◌≡◌, ◌≢◌, ◌≤◌}
 
 -- numbers in order, from the first on and below the second
 abbrev Climb : ℕ → ℕ → List ℕ → Type 0

@@ -1,6 +1,5 @@
 -- The place of a class by its number.
-use Rattle.sdd_tm.proofs.All.{AreApart, Bool, ClassState, List, Log, None, Setting, Some, [], ap, arith, cond, eqb-false, eqb-true, false, map, place_of, position_from, position_from-zero, refl, slice_get, slice_set, state_of, subst, suc, sym, true, zero, ℕ, ◌+◌, ◌==◌, ◌∙◌, ◌∷◌, ◌≡◌, ◌≢◌}
-use Rattle.sdd_tm.proofs.Lists.{some_is, of_map, map_is_set, map_same}
+use Rattle.sdd_tm.proofs.All.{AreApart, Bool, ClassState, List, Log, None, Setting, Some, [], ap, arith, cond, eqb-false, eqb-true, false, map, map_is_set, map_same, of_map, place_of, position_from, position_from-zero, refl, slice_get, slice_set, some_is, state_of, subst, suc, sym, true, zero, ℕ, ◌+◌, ◌==◌, ◌∙◌, ◌∷◌, ◌≡◌, ◌≢◌}
 use Rattle.sdd_tm.proofs.ClassNumbers.{runs_apart}
 
 -- the first member that passes

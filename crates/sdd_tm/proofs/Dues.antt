@@ -1,6 +1,5 @@
 -- What is due by a log, where at most one class has a step of its own: that class's step.
-use Rattle.sdd_tm.proofs.All.{Act, Answer, Bases, Bool, Catalogue, ClassState, ClassView, Commit, IsCalm, LineStep, Log, None, Option, Send, Setting, Some, Start, Step, ToCommit, ToSend, View, active, arith, asks, asks_of, attempt_due, can_answer, class_of, class_step, class_view, exchange_due, false, first_some, held_due, if◌then◌else◌, is_empty, is_none, line_step, list_any, next, none_due, not, null_due, of_line, on_hold, or_else, own_step, refl, rules, runs, slice_get, start_due, start_step, state_of, subst, true, view_of, ℕ, ◌&&◌, ◌∙◌, ◌≡◌, ◌≢◌}
-use Rattle.sdd_tm.proofs.Lists.{some_is, get_map, of_map, none_first, only_first, first_at}
+use Rattle.sdd_tm.proofs.All.{Act, Answer, Bases, Bool, Catalogue, ClassState, ClassView, Commit, IsCalm, LineStep, Log, None, Option, Send, Setting, Some, Start, Step, ToCommit, ToSend, View, active, arith, asks, asks_of, attempt_due, can_answer, class_of, class_step, class_view, exchange_due, false, first_at, first_some, get_map, held_due, if◌then◌else◌, is_empty, is_none, line_step, list_any, next, none_due, none_first, not, null_due, of_line, of_map, on_hold, only_first, or_else, own_step, refl, rules, runs, slice_get, some_is, start_due, start_step, state_of, subst, true, view_of, ℕ, ◌&&◌, ◌∙◌, ◌≡◌, ◌≢◌}
 use Rattle.sdd_tm.proofs.OpenAsks.{none_answered}
 
 -- a step of a class

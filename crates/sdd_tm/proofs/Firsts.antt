@@ -1,6 +1,5 @@
 -- The first member that passes, by its place.
-use Rattle.sdd_tm.proofs.All.{Bool, IfSome, IsSome, List, None, OnSome, Option, Some, [], ap, arith, cond, false, find, length, position, position_from, position_from-zero, refl, remove, slice_index_or as get_or, subst, suc, sym, true, without_first, ℕ, ◌+◌, ◌<◌, ◌∙◌, ◌∷◌, ◌≡◌}
-use Rattle.sdd_tm.proofs.Lists.{some_is}
+use Rattle.sdd_tm.proofs.All.{Bool, IfSome, IsSome, List, None, OnSome, Option, Some, [], ap, arith, cond, false, find, length, position, position_from, position_from-zero, refl, remove, slice_index_or as get_or, some_is, subst, suc, sym, true, without_first, ℕ, ◌+◌, ◌<◌, ◌∙◌, ◌∷◌, ◌≡◌}
 
 pub record IsNowhere {A : Type 0} (p : A → Bool) (xs : List A) : Type 0 where
   pub not_found : find p xs ≡ None

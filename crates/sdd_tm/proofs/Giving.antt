@@ -1,6 +1,5 @@
 -- A transaction that is given to the module goes to the queue of its class.
-use Rattle.sdd_tm.proofs.All.{AreSettled, Bases, Bool, Catalogue, FitsSubmit, IsAmid, IsSettingOf, IsSoundLog, List, Log, Setting, State, Submits, Txn, [], active, all_starts, and_parts, ap, arith, class_at, class_for, class_given, class_of, cond, covers, current_era, eqb-true, false, filter, head_of, is_for, is_some, length, line_submitted, list_all, map, map_map, ne_eqb, numbers_to, read_in_era, read_set, reads_at, refl, resting, runs, stamped_still, state_given, state_of, subst, sym, true, unwrap_or, uses_in_era, write_set, writes, ℕ, ◌&&◌, ◌+◌, ◌<◌, ◌==◌, ◌^◌, ◌||◌, ◌∙◌, ◌∷◌, ◌≡◌, ◌≤◌}
-use Rattle.sdd_tm.proofs.Lists.{map_same}
+use Rattle.sdd_tm.proofs.All.{AreSettled, Bases, Bool, Catalogue, FitsSubmit, IsAmid, IsSettingOf, IsSoundLog, List, Log, Setting, State, Submits, Txn, [], active, all_starts, and_parts, ap, arith, class_at, class_for, class_given, class_of, cond, covers, current_era, eqb-true, false, filter, head_of, is_for, is_some, length, line_submitted, list_all, map, map_map, map_same, ne_eqb, numbers_to, read_in_era, read_set, reads_at, refl, resting, runs, stamped_still, state_given, state_of, subst, sym, true, unwrap_or, uses_in_era, write_set, writes, ℕ, ◌&&◌, ◌+◌, ◌<◌, ◌==◌, ◌^◌, ◌||◌, ◌∙◌, ◌∷◌, ◌≡◌, ◌≤◌}
 use Rattle.sdd_tm.proofs.ClassNumbers.{runs_class}
 use Rattle.sdd_tm.proofs.Handing.{has_room, settled_of}
 use Rattle.sdd_eras.proofs.EraSets as eras

@@ -1,7 +1,5 @@
 -- A message that is handed: the module keeps what follows from the log, and only what the message touches may have a step.
-use Rattle.sdd_tm.proofs.All.{AreSettled, Ask, Asked, Attempt, Bases, ClassNo, ClassState, Exchange, FitsAnswer, Handed, HoldCounts, InTurn, IsAmid, IsAwaited, IsSettingOf, IsSoundLog, List, Log, Msg, None, Option, Question, Ready, Reduced, Reject, Rows, Setting, Site, Some, State, Values, [], active, active_handed, after_hand, all_starts, and_right, ap, arith, ask_handed, asked, asks_of, class_handed, class_named, class_of, clock, cond, false, fits, fits_kind, hands, hold_handed, holds, holds_handed, if◌then◌else◌, length, length_range, line_handed, line_step, map, map_map, nat_lt, ne_eqb, on_hold, owed_handed, pushed_by, refl, rejects, resting, runs, served_handed, shorter, slice_get, stamped_still, state_handed, state_of, subst, suc, sym, true, view_of, ℕ, ◌&&◌, ◌++◌, ◌+◌, ◌<◌, ◌==◌, ◌^◌, ◌∙◌, ◌∷◌, ◌≡◌, ◌≢◌, ◌≤◌}
-use Rattle.sdd_tm.proofs.Lists.{get_map, map_same}
-use Rattle.sdd_tm.proofs.OpenAsks.{open_handed}
+use Rattle.sdd_tm.proofs.All.{AreSettled, Ask, Asked, Attempt, Bases, ClassNo, ClassState, Exchange, FitsAnswer, Handed, HoldCounts, InTurn, IsAmid, IsAwaited, IsSettingOf, IsSoundLog, List, Log, Msg, None, Option, Question, Ready, Reduced, Reject, Rows, Setting, Site, Some, State, Values, [], active, active_handed, after_hand, all_starts, and_right, ap, arith, ask_handed, asked, asks_of, class_handed, class_named, class_of, clock, cond, false, fits, fits_kind, get_map, hands, hold_handed, holds, holds_handed, if◌then◌else◌, length, length_range, line_handed, line_step, map, map_map, map_same, nat_lt, ne_eqb, on_hold, open_handed, owed_handed, pushed_by, refl, rejects, resting, runs, served_handed, shorter, slice_get, stamped_still, state_handed, state_of, subst, suc, sym, true, view_of, ℕ, ◌&&◌, ◌++◌, ◌+◌, ◌<◌, ◌==◌, ◌^◌, ◌∙◌, ◌∷◌, ◌≡◌, ◌≢◌, ◌≤◌}
 use Rattle.sdd_tm.proofs.Dues.{own_none, none_parts}
 use Rattle.sdd_tm.proofs.Rooms.{few_starts}
 

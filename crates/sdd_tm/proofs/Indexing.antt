@@ -1,6 +1,5 @@
 -- A class that was lent by its place.
-use Rattle.sdd_tm.proofs.All.{Bases, Bool, Catalogue, ClassState, Commit, Err, IsDatabase, List, Notes, Ok, OnOk, Result, ServesAt, Some, State, Step, Ticking, [], act_of, slice_get, slice_index_or, subst, suc, with_due_act, zero, ℕ, ◌∙◌, ◌∷◌, ◌≡◌}
-use Rattle.sdd_tm.proofs.Lists.{some_is}
+use Rattle.sdd_tm.proofs.All.{Bases, Bool, Catalogue, ClassState, Commit, Err, IsDatabase, List, Notes, Ok, OnOk, Result, ServesAt, Some, State, Step, Ticking, [], act_of, slice_get, slice_index_or, some_is, subst, suc, with_due_act, zero, ℕ, ◌∙◌, ◌∷◌, ◌≡◌}
 use Rattle.sdd_tm.proofs.Settling.{NotesDone}
 use Rattle.sdd_attempt.specs.protocol.declared.entry.Entry as line
 

@@ -1,6 +1,5 @@
 -- A module that is down: transactions wait in it, and what is due is done once it is up again.
-use Rattle.sdd_tm.proofs.All.{Bases, ClassState, Does, Era, FitsSite, FitsSubmit, IsAmid, IsCalm, IsEraOf, IsKept, IsTrue, Kept, List, Log, Msg, None, Notes, Queues, Rec, Redeclared, Represents, Setting, Site, Some, State, Submit, Submits, Ticked, Txn, TxnNo, [], active, all_noted, all_starts, ap, arith, bound_of, class_for, class_given, class_of, clock, current_era, false, held_of, if◌then◌else◌, is_idle, length, list_all, map, next, nothing_noted, own_step, pushed, refl, resting, rules, runs, slice_get, state_given, state_of, subst, sym, ticked, true, ℕ, ◌+◌, ◌<◌, ◌==◌, ◌^◌, ◌∙◌, ◌∷◌, ◌≡◌}
-use Rattle.sdd_tm.proofs.Lists.{get_map, get_within, of_map}
+use Rattle.sdd_tm.proofs.All.{Bases, ClassState, Does, Era, FitsSite, FitsSubmit, IsAmid, IsCalm, IsEraOf, IsKept, IsTrue, Kept, List, Log, Msg, None, Notes, Queues, Rec, Redeclared, Represents, Setting, Site, Some, State, Submit, Submits, Ticked, Txn, TxnNo, [], active, all_noted, all_starts, ap, arith, bound_of, class_for, class_given, class_of, clock, current_era, false, get_map, get_within, held_of, if◌then◌else◌, is_idle, length, list_all, map, next, nothing_noted, of_map, own_step, pushed, refl, resting, rules, runs, slice_get, state_given, state_of, subst, sym, ticked, true, ℕ, ◌+◌, ◌<◌, ◌==◌, ◌^◌, ◌∙◌, ◌∷◌, ◌≡◌}
 use Rattle.sdd_tm.proofs.Handing.{has_room}
 use Rattle.sdd_tm.proofs.Taking.{few_kept, with_given}
 use Rattle.sdd_tm.proofs.Dues.{none_parts, own_none}

@@ -1,6 +1,5 @@
 -- The loop over the classes of a module: what each step asks for, and what it leaves.
-use Rattle.sdd_tm.proofs.All.{Answer, AreTried, Bases, Bool, ClassState, Commit, IsAmid, IsCalm, IsDatabase, IsServed, List, Log, None, Notes, Send, ServesAt, Setting, Some, Start, State, Step, ToCommit, Works, act_of, ap, arith, class_of, class_step, clock, commits, length, line_step, refl, runs, slice_get, slice_set, state_done, step_at, subst, suc, sym, tries_are_kept, with_due_act, work, ℕ, ◌+◌, ◌<◌, ◌∙◌, ◌∷◌, ◌≡◌, ◌≤◌}
-use Rattle.sdd_tm.proofs.Lists.{of_map}
+use Rattle.sdd_tm.proofs.All.{Answer, AreTried, Bases, Bool, ClassState, Commit, IsAmid, IsCalm, IsDatabase, IsServed, List, Log, None, Notes, Send, ServesAt, Setting, Some, Start, State, Step, ToCommit, Works, act_of, ap, arith, class_of, class_step, clock, commits, length, line_step, of_map, refl, runs, slice_get, slice_set, state_done, step_at, subst, suc, sym, tries_are_kept, with_due_act, work, ℕ, ◌+◌, ◌<◌, ◌∙◌, ◌∷◌, ◌≡◌, ◌≤◌}
 use Rattle.sdd_tm.proofs.ClassNumbers.{runs_class}
 use Rattle.sdd_tm.proofs.Dues.{IsStep, starts, step_is}
 use Rattle.sdd_tm.proofs.Acting.{may_start}

@@ -1,6 +1,5 @@
 -- One class among the parts of a module takes a message, or a transaction.
-use Rattle.sdd_tm.proofs.All.{AreApart, Bases, ClassNo, ClassState, FitsSubmit, FitsTxn, IsAwaited, IsKept, List, Log, Msg, None, Queued, Setting, Site, Some, State, Txn, [], ap, arith, class_given, class_handed, class_named, class_of, contains, eq-eqb, false, fits_kind, length, length-map, map, new_in_queue, place_of, push_of, refl, runs, slice_get, slice_index_or, slice_set, state_given, state_handed, state_of, subst, sym, with_hold_message, ℕ, ◌++◌, ◌/◌, ◌<◌, ◌^◌, ◌∙◌, ◌∷◌, ◌≡◌, ◌≢◌}
-use Rattle.sdd_tm.proofs.Lists.{some_is, of_map, map_same, get_within}
+use Rattle.sdd_tm.proofs.All.{AreApart, Bases, ClassNo, ClassState, FitsSubmit, FitsTxn, IsAwaited, IsKept, List, Log, Msg, None, Queued, Setting, Site, Some, State, Txn, [], ap, arith, class_given, class_handed, class_named, class_of, contains, eq-eqb, false, fits_kind, get_within, length, length-map, map, map_same, new_in_queue, of_map, place_of, push_of, refl, runs, slice_get, slice_index_or, slice_set, some_is, state_given, state_handed, state_of, subst, sym, with_hold_message, ℕ, ◌++◌, ◌/◌, ◌<◌, ◌^◌, ◌∙◌, ◌∷◌, ◌≡◌, ◌≢◌}
 use Rattle.sdd_tm.proofs.ClassPlaces.{somewhere, named_nowhere, named_alone, classes_apart}
 use Rattle.sdd_tm.proofs.Handing.{handed_other, few_runs}
 use Rattle.sdd_tm.proofs.Touching.{unnamed, given_other}

@@ -1,6 +1,5 @@
 -- Only what a message or a transaction touches may have a step after it.
-use Rattle.sdd_tm.proofs.All.{AreApart, AreSettled, Bool, ClassNo, ClassState, Hold, IsCalm, List, Msg, None, Option, Release, Site, Some, State, Txn, all_places, ap, arith, class_given, class_handed, class_named, hold_handed, length, map, ne_eqb, one_place, place_of, refl, slice_get, start_step, state_given, state_handed, subst, sym, touched, touched_by, ℕ, ◌+◌, ◌∙◌, ◌≡◌, ◌≢◌, ◌≤◌}
-use Rattle.sdd_tm.proofs.Lists.{some_is, of_map, get_within}
+use Rattle.sdd_tm.proofs.All.{AreApart, AreSettled, Bool, ClassNo, ClassState, Hold, IsCalm, List, Msg, None, Option, Release, Site, Some, State, Txn, all_places, ap, arith, class_given, class_handed, class_named, get_within, hold_handed, length, map, ne_eqb, of_map, one_place, place_of, refl, slice_get, some_is, start_step, state_given, state_handed, subst, sym, touched, touched_by, ℕ, ◌+◌, ◌∙◌, ◌≡◌, ◌≢◌, ◌≤◌}
 use Rattle.sdd_tm.proofs.Dues.{none_parts}
 use Rattle.sdd_tm.proofs.Calm.{calm_kept}
 use Rattle.sdd_tm.proofs.ClassPlaces.{nowhere, somewhere}

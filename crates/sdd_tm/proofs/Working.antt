@@ -1,6 +1,5 @@
 -- Each step of a class leaves it less to do.
-use Rattle.sdd_tm.proofs.All.{Act, Answer, Asked, Attempt, Bases, Bool, ClassState, Commit, IsAmid, IsOfHead, Line, List, Log, None, Null, Option, Queued, Send, Sends, Setting, Site, Some, Start, State, Step, Ticking, [], act_of, active, active_after, answer_time, answer_to, ap, arith, asks, asks_of, begins, class_done, class_no, class_of, class_step, clock, commit_act, commit_next, commits, cond, current_era, false, false≢true, filter, head_of, length, line_done, list_any, map, not, on_hold, option_map, own_record, queue, queue_after, refl, runs, sends_of_act, slice_get, slice_set, start_act, start_next, started, starts_committed, starts_started, state_done, state_of, subst, suc, sym, ticked, time_at, timestamp, tried, true, view_of, without_first, work, work_in, work_of, zero, ℕ, ◌<◌, ◌==◌, ◌||◌, ◌∙◌, ◌∷◌, ◌≡◌}
-use Rattle.sdd_tm.proofs.Lists.{some_is, of_map}
+use Rattle.sdd_tm.proofs.All.{Act, Answer, Asked, Attempt, Bases, Bool, ClassState, Commit, IsAmid, IsOfHead, Line, List, Log, None, Null, Option, Queued, Send, Sends, Setting, Site, Some, Start, State, Step, Ticking, [], act_of, active, active_after, answer_time, answer_to, ap, arith, asks, asks_of, begins, class_done, class_no, class_of, class_step, clock, commit_act, commit_next, commits, cond, current_era, false, false≢true, filter, head_of, length, line_done, list_any, map, not, of_map, on_hold, option_map, own_record, queue, queue_after, refl, runs, sends_of_act, slice_get, slice_set, some_is, start_act, start_next, started, starts_committed, starts_started, state_done, state_of, subst, suc, sym, ticked, time_at, timestamp, tried, true, view_of, without_first, work, work_in, work_of, zero, ℕ, ◌<◌, ◌==◌, ◌||◌, ◌∙◌, ◌∷◌, ◌≡◌}
 use Rattle.sdd_tm.proofs.Dues.{IsStep, sends, commits_now, answers, starts, step_is}
 use Rattle.sdd_tm.proofs.Acting.{may_start}
 

@@ -1,25 +1,15 @@
 -- Which logs a transaction module represents, and what holds between the acts of a call.
 use Rattle.std.specs.Prelude.{ℕ, suc, ◌+◌, ◌<◌, ◌≤◌, ◌^◌, ◌≡◌, ◌≢◌, IsTrue, List, [], ◌∷◌, slice_get, Some, None}
-use Rattle.std.specs.List.{AllByRecursion}
-use Rattle.sdd_attempt.specs.All.{AreStamped, Bases, IsDatabase, IsLineOf, IsServed, IsWhole, Kept, Log, Setting, active, current_era, hands, starts_left}
+use Rattle.sdd_attempt.specs.All.{AreStamped, IsLineOf, IsServed}
+use Rattle.sdd_rules.specs.All.{Bases, IsDatabase, IsWhole, Kept, Log, Setting, active, current_era, starts_left}
 use Rattle.sdd_attempt.specs.catalog.Rules as catalogues
 use Rattle.sdd_eras.specs.EraOf.{IsEraOf}
-use Rattle.sdd_tm.specs.Views.{Question, HoldCounts, asks, holds, runs}
-use Rattle.sdd_tm.specs.State.{ClassState, State, state_of}
+use Rattle.sdd_rules.specs.tm.Views.{HoldCounts, holds, runs}
+use Rattle.sdd_rules.specs.tm.State.{ClassState, State, state_of}
 use Rattle.sdd_tm.specs.Steps.{own_step, start_step, class_step, held_of}
+use Rattle.sdd_rules.specs.tm.OpenAsks.{AreOpen}
 
 -- every log of the site
-
--- the hands of these ASKs rise, all above the first number and up to the second
-abbrev pub Rise : ℕ → ℕ → List Question → Type 0
-Rise low high [] = low ≤ high
-Rise low high (q ∷ qs) = (low < q.hand) × Rise q.hand high qs
-
--- the open ASKs came by different hands, in order, and no HOLD came by one of them
-pub record AreOpen (log : Log) : Type 0 where
-  pub rise : Rise 0 (hands log) (asks log)
-  pub last : (holds log).last ≤ hands log
-  pub apart : AllByRecursion (λ q. q.hand ≢ (holds log).last) (asks log)
 
 -- a HOLD is answered by at most one HELD, and then released, before the next one comes
 pub record InTurn (h : HoldCounts) : Type 0 where

@@ -1,14 +1,15 @@
 -- What the classes of a transaction module do next by themselves, and what becomes of them.
 use Rattle.std.specs.Prelude.{ℕ, nat_le, Bool, true, false, not, ◌&&◌, cond, if◌then◌else◌, List, [], ◌∷◌, is_none, slice_set, Option, Some, None, option_map}
 use Rattle.std.specs.List.{list_any, list_all, find}
-use Rattle.sdd_attempt.specs.All.{Act, Attempt, Bases, Held, Line, Null, Sends, Ticking, U, bound_of, class_no, clock_done, commit_next, is_empty, line_done, line_step, or_else, send_next, start_next, time_at}
+use Rattle.sdd_rules.specs.All.{Act, Attempt, Bases, Held, Line, Null, Sends, Ticking, U, bound_of, class_no, is_empty, or_else, time_at}
+use Rattle.sdd_attempt.specs.All.{clock_done, commit_next, line_done, line_step, send_next, start_next}
 use Rattle.sdd_attempt.specs.protocol.declared.entry.Entry as line
-use Rattle.sdd_attempt.specs.declared.step.LineStep.{LineStep}
-use Rattle.sdd_attempt.specs.declared.step.LineStep.TheVariants.{Sends as ToSend, Commits as ToCommit}
-use Rattle.sdd_tm.specs.declared.asked.Asked.{Asked}
+use Rattle.sdd_attempt.specs.running.declared.step.LineStep.{LineStep}
+use Rattle.sdd_attempt.specs.running.declared.step.LineStep.TheVariants.{Sends as ToSend, Commits as ToCommit}
+use Rattle.sdd_rules.specs.declared.asked.Asked.{Asked}
 use Rattle.sdd_tm.specs.declared.step.Step.{Step}
 use Rattle.sdd_tm.specs.declared.step.Step.TheVariants.{Send, Commit, Answer, Start}
-use Rattle.sdd_tm.specs.State.{ClassState, State}
+use Rattle.sdd_rules.specs.tm.State.{ClassState, State}
 
 -- the next step of a class
 

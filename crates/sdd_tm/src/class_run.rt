@@ -1,17 +1,18 @@
 ghost use Rattle.std.specs.Prelude.{◌≡◌, ◌≢◌, ◌≤◌, ◌<◌, ◌+◌, ◌^◌, ◌++◌, ◌∷◌, ℕ, [], map, length, false, IfOk, OnOk, IsTrue, Some, None, option_map};
 ghost use Rattle.std.specs.List.{list_any, find, position};
-ghost use Rattle.sdd_attempt.specs.All.{AreTried, Bases, FitsTxn, IsAwaited, IsDatabase, Queued, ServesAt, clock_done, contains, standing_of, with_due_act};
+ghost use Rattle.sdd_attempt.specs.All.{AreTried, IsAwaited, ServesAt, clock_done};
+ghost use Rattle.sdd_rules.specs.All.{Bases, FitsTxn, IsDatabase, Queued, contains, standing_of, with_due_act};
 ghost use Rattle.sdd_tm.specs.Handing.{class_handed};
 ghost use Rattle.sdd_tm.specs.Steps.{is_idle, answers, can_answer, time_by, answer_to, class_step, act_of, class_done, without_first};
 ghost use Rattle.sdd_tm.specs.Works.{first_class, classes_of};
 ghost use Rattle.sdd_tm.specs.declared.step.Step.TheVariants.{Commit, Start};
 
-use crate::asked::Asked;
 use crate::step::Step;
 use sdd_attempt::{
     Catalogue, ClassNo, Clock, Draft, Line, LineStep, Msg, NoMemory, Site, Standing, Table, TmNo,
     Ts, Txn, TxnNo,
 };
+use sdd_rules::Asked;
 use std::alloc::Global;
 use std::collections::VecDeque;
 use std::marker::Model;
@@ -25,7 +26,7 @@ pub struct ClassRun<'a> {
 }
 
 impl<'a> Model for ClassRun<'a> {
-    ghost use Rattle.sdd_tm.specs.State.{ClassState};
+    ghost use Rattle.sdd_rules.specs.tm.State.{ClassState};
 
     ghost Value = { ClassState };
 

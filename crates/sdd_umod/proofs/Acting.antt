@@ -1,6 +1,5 @@
 -- The module's next step is the act that is due, and then it keeps what follows from the log.
-use Rattle.sdd_umod.proofs.All.{Act, AllUpTo, AreStarted, Attempt, Bases, Bool, Commit, Did, Hold, IsAmid, IsOfHead, IsServed, IsSoundLog, List, Log, Msg, NoReads, None, Notes, Option, Queued, Release, Send, Sends, Setting, Some, Start, State, Step, T, Ticking, TmCounts, ToCommit, ToSend, [], act_of, active, active_after, active_sent, after, all_up_of, ap, arith, asking_of, begins, clock, commit_act, commit_next, commit_no_reads, commits, counts, eqb-true, filter, find, handed, has_to_send, head_is_untried, head_of, hold_step, is_free, is_kept_on_hold, last_served, line_apart, line_committed, line_of, line_sent, line_started, line_step, ltb-true, map, next, no_read_asked, not, numbers_to, option_map, queue, queue_after, refl, release_step, request_of, running, send_next, sends_of_act, sent, served_sent, stamped_did, start_act, start_is_up, start_modules, start_next, start_step, started, starts_committed, starts_left, starts_sent, starts_started, state_done, state_of, step_of, subst, suc, sym, ticked, time_at, timestamp, tm_of, tried, true, with_act, with_due_act, ℕ, ◌&&◌, ◌+◌, ◌<◌, ◌==◌, ◌∙◌, ◌∷◌, ◌≡◌, ◌≤◌}
-use Rattle.sdd_umod.proofs.Lists.{found_in_map}
+use Rattle.sdd_umod.proofs.All.{Act, AllUpTo, AreStarted, Attempt, Bases, Bool, Commit, Did, Hold, IsAmid, IsOfHead, IsServed, IsSoundLog, List, Log, Msg, NoReads, None, Notes, Option, Queued, Release, Send, Sends, Setting, Some, Start, State, Step, T, Ticking, TmCounts, ToCommit, ToSend, [], act_of, active, active_after, active_sent, after, all_up_of, ap, arith, asking_of, begins, clock, commit_act, commit_next, commit_no_reads, commits, counts, eqb-true, filter, find, found_in_map, handed, has_to_send, head_is_untried, head_of, hold_step, is_free, is_kept_on_hold, last_served, line_apart, line_committed, line_of, line_sent, line_started, line_step, ltb-true, map, next, no_read_asked, not, numbers_to, option_map, queue, queue_after, refl, release_step, request_of, running, send_next, sends_of_act, sent, served_sent, stamped_did, start_act, start_is_up, start_modules, start_next, start_step, started, starts_committed, starts_left, starts_sent, starts_started, state_done, state_of, step_of, subst, suc, sym, ticked, time_at, timestamp, tm_of, tried, true, with_act, with_due_act, ℕ, ◌&&◌, ◌+◌, ◌<◌, ◌==◌, ◌∙◌, ◌∷◌, ◌≡◌, ◌≤◌}
 use Rattle.sdd_umod.proofs.Dues.{IsStep, sends, commits_now, releases, starts, holds, step_is, attempt_is_due, release_is_due, start_comes, hold_comes}
 use Rattle.sdd_umod.proofs.AfterActs.{after_request, after_commit, after_start, after_release, after_hold, release_apart, hold_apart}
 use Rattle.sdd_umod.proofs.Turns.{turn_release, turn_hold, turn_commit, own_counts}

@@ -1,6 +1,5 @@
 -- Undeclared transactions read every fragment somewhere: each one has a copy.
-use Rattle.sdd_umod.proofs.All.{AllByRecursion, Bool, Catalogue, DmNo, Fragment, FragmentPart, IsThere, List, Parts, Txn, [], ap, arith, at_number, both_empty, catalogue_of, dm_no, each_image, each_unfound, eq-eqb, false, false≢true, find, fragment_at, fragment_from, has_copy, is_some, length, length-map, list_all, list_any, lowest_copy, no_faults, or_left, parts_of, range_with_len, read_set, read_set_there, reads_at, recursion_from_All, refl, relation_names, sound_fragments, subst, suc, sym, true, unbroken, zero, ℕ, ◌+◌, ◌<◌, ◌==◌, ◌∙◌, ◌∷◌, ◌≡◌, ◌≢◌, ◌≤◌}
-use Rattle.sdd_attempt.specs.All.{IsSoundCatalogue}
+use Rattle.sdd_umod.proofs.All.{AllByRecursion, Bool, Catalogue, DmNo, Fragment, FragmentPart, IsSoundCatalogue, IsThere, List, Parts, Txn, [], ap, arith, at_number, both_empty, catalogue_of, dm_no, each_image, each_unfound, eq-eqb, false, false≢true, find, fragment_at, fragment_from, has_copy, is_some, length, length-map, list_all, list_any, lowest_copy, no_faults, or_left, parts_of, range_with_len, read_set, read_set_there, reads_at, recursion_from_All, refl, relation_names, sound_fragments, subst, suc, sym, true, unbroken, zero, ℕ, ◌+◌, ◌<◌, ◌==◌, ◌∙◌, ◌∷◌, ◌≡◌, ◌≤◌}
 
 -- each fragment has a copy
 

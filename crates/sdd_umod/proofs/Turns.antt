@@ -1,16 +1,8 @@
 -- HOLDs, HELDs and RELEASEs of each T stay in turn, and a Commit had its Start.
-use Rattle.sdd_umod.proofs.All.{Held, InTurn, Log, Msg, Site, TmCounts, [], ap, arith, commits, counted, counts, counts_handed, nat_tests, refl, suc, sym, ℕ, ◌<◌, ◌∙◌, ◌∷◌, ◌≡◌}
-use Rattle.sdd_attempt.specs.All.{Hold, Release}
+use Rattle.sdd_umod.proofs.All.{Held, InTurn, Log, TmCounts, ap, arith, commits, counted, counts, nat_tests, suc, sym, ℕ, ◌<◌, ◌∙◌, ◌≡◌}
+use Rattle.sdd_rules.specs.All.{Hold, Release}
 use Rattle.sdd_umod.specs.declared.tm_count.Sign.TheVariants as signs
-
--- which T the counts are of
-
-pub tm_handed : (from : Site) (m : Msg) (k : TmCounts) → (counts_handed from m k).tm ≡ k.tm
-tm_handed from m k = grind (arith)
-
-pub counts_tm : (t : ℕ) (log : Log) → (counts t log).tm ≡ t
-counts_tm t [] = refl
-counts_tm t (e ∷ log) = grind (arith, tm_handed, counts_tm t log)
+use Rattle.sdd_rules.proofs.umod.Counts.{counts_tm}
 
 -- one message more, of the T that has so many
 

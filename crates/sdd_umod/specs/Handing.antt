@@ -1,9 +1,9 @@
 -- What becomes of what the module keeps when a message is handed to it, or a transaction is given to it.
 use Rattle.std.specs.Prelude.{ℕ, ◌+◌, ◌/◌, ◌<◌, ◌^◌, ◌==◌, if◌then◌else◌, List, [], ◌∷◌, ◌++◌, map}
-use Rattle.sdd_attempt.specs.All.{Done, Held, Msg, Site, T, Ticking, Txn, active_handed, pushed}
+use Rattle.sdd_rules.specs.All.{Done, Held, Msg, Site, T, Ticking, Txn, active_handed, pushed}
 use Rattle.sdd_umod.specs.declared.tm_count.Sign.TheVariants as signs
-use Rattle.sdd_umod.specs.Views.{Served, TmCounts}
-use Rattle.sdd_umod.specs.State.{State, as_counted}
+use Rattle.sdd_rules.specs.umod.Views.{Served, TmCounts}
+use Rattle.sdd_rules.specs.umod.State.{State, as_counted}
 use Rattle.sdd_umod.specs.Steps.{counted}
 
 -- a message: of those that come to the module a HELD alone pushes its clock

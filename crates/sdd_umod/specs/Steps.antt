@@ -1,16 +1,17 @@
 -- What the module does next by itself, the act that it is, and what becomes of what it keeps.
 use Rattle.std.specs.Prelude.{ℕ, suc, nat_lt, ◌==◌, Bool, ◌&&◌, if◌then◌else◌, [], map, find, Option, Some, None, option_map}
 use Rattle.std.specs.List.{list_all}
-use Rattle.sdd_attempt.specs.All.{Act, Bases, Sends, T, TmNo, clock_done, commit_next, head_is_untried, is_empty, line_done, line_step, or_else, send_next, start_next, time_at, tm_no}
+use Rattle.sdd_rules.specs.All.{Act, Bases, Sends, T, is_empty, or_else, time_at}
+use Rattle.sdd_attempt.specs.All.{clock_done, commit_next, head_is_untried, line_done, line_step, send_next, start_next}
 use Rattle.sdd_attempt.specs.wire.declared.msg.Msg.TheVariants as messages
-use Rattle.sdd_attempt.specs.declared.step.LineStep.{LineStep}
-use Rattle.sdd_attempt.specs.declared.step.LineStep.TheVariants.{Sends as ToSend, Commits as ToCommit}
+use Rattle.sdd_attempt.specs.running.declared.step.LineStep.{LineStep}
+use Rattle.sdd_attempt.specs.running.declared.step.LineStep.TheVariants.{Sends as ToSend, Commits as ToCommit}
 use Rattle.sdd_umod.specs.declared.step.Step.{Step}
 use Rattle.sdd_umod.specs.declared.step.Step.TheVariants.{Send, Commit, Release, Start, Hold}
 use Rattle.sdd_umod.specs.declared.tm_count.Sign.{Sign}
 use Rattle.sdd_umod.specs.declared.tm_count.Sign.TheVariants as signs
-use Rattle.sdd_umod.specs.Views.{Served, TmCounts, ts_of}
-use Rattle.sdd_umod.specs.State.{State}
+use Rattle.sdd_rules.specs.umod.Views.{Served, TmCounts, tm_of, ts_of, turn}
+use Rattle.sdd_rules.specs.umod.State.{State}
 
 -- the next step
 
@@ -27,17 +28,10 @@ is_applied dms served = served.dones == dms
 abbrev pub is_kept_on_hold : ℕ → TmCounts → Bool
 is_kept_on_hold commits k = nat_lt k.releases commits
 
-abbrev pub tm_of : TmCounts → TmNo
-tm_of k = tm_no k.tm
-
 abbrev pub release_step : State → Option Step
 release_step state =
     if is_applied state.line.catalogue.dms state.served
     then option_map Release (option_map tm_of (find (is_kept_on_hold state.served.commits) state.counts)) else None
-
--- the number of the transaction that is served next, from 1
-abbrev pub turn : Served → ℕ
-turn served = suc served.commits
 
 -- a T holds for the transaction of this number, and has said so
 abbrev pub is_holding : ℕ → TmCounts → Bool

@@ -1,9 +1,10 @@
 -- What the calls of the module promise of its parts.
 use Rattle.std.specs.Prelude.{ℕ, ◌<◌, ◌^◌, ◌≡◌, List, ◌∷◌, map, slice_get, Some}
-use Rattle.sdd_attempt.specs.All.{Bases, Catalogue, Log, Notes, Reached, Setting, at_zero, no_line, numbers_to}
-use Rattle.sdd_umod.specs.Due.{next}
-use Rattle.sdd_umod.specs.Views.{Served, TmCounts}
-use Rattle.sdd_umod.specs.State.{State}
+use Rattle.sdd_rules.specs.All.{Bases, Catalogue, Log, Notes, Reached, Setting, at_zero, numbers_to}
+use Rattle.sdd_attempt.specs.All.{no_line}
+use Rattle.sdd_rules.specs.umod.Due.{next}
+use Rattle.sdd_rules.specs.umod.Views.{Served, TmCounts}
+use Rattle.sdd_rules.specs.umod.State.{State}
 use Rattle.sdd_umod.specs.Represents.{IsAmid}
 
 -- From one state acts were made to another, each of which was due, and this is what was noted for them: by whatever log

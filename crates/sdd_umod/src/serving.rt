@@ -1,6 +1,7 @@
 ghost use Rattle.std.specs.Prelude.{◌≡◌, ◌<◌, ◌+◌, ◌^◌};
 ghost use Rattle.sdd_umod.specs.Handing.{done_after_message};
-ghost use Rattle.sdd_umod.specs.Steps.{committed, is_applied, turn};
+ghost use Rattle.sdd_umod.specs.Steps.{committed, is_applied};
+ghost use Rattle.sdd_rules.specs.umod.Views.{turn};
 ghost use Rattle.sdd_umod.specs.Works.{nothing_served};
 
 use sdd_attempt::Ts;
@@ -17,7 +18,7 @@ pub(crate) struct Serving {
 
 impl Model for Serving {
     ghost use Rattle.std.specs.Prelude.{◌<◌, ◌^◌};
-    ghost use Rattle.sdd_umod.specs.Views.{Served};
+    ghost use Rattle.sdd_rules.specs.umod.Views.{Served};
 
     ghost Value = { Served };
 

@@ -1,7 +1,8 @@
 ghost use Rattle.std.specs.Prelude.{◌≡◌, filter_map, find, map, option_map, IfOk};
 ghost use Rattle.std.specs.List.{list_all, list_any};
-ghost use Rattle.sdd_umod.specs.Steps.{counted, is_free, is_holding, is_kept_on_hold, tm_of};
-ghost use Rattle.sdd_umod.specs.Standing.{is_asked_to_hold, lacks_held, unheld_by};
+ghost use Rattle.sdd_umod.specs.Steps.{counted, is_free, is_holding, is_kept_on_hold};
+ghost use Rattle.sdd_rules.specs.umod.Views.{tm_of};
+ghost use Rattle.sdd_rules.specs.umod.Standing.{is_asked_to_hold, lacks_held, unheld_by};
 ghost use Rattle.sdd_umod.specs.Works.{no_counts, HasRoom, HaveRoom};
 
 use sdd_attempt::{NoMemory, TmNo};
@@ -27,7 +28,7 @@ pub(crate) struct TmCount {
 }
 
 impl Model for TmCount {
-    ghost use Rattle.sdd_umod.specs.Views.{TmCounts};
+    ghost use Rattle.sdd_rules.specs.umod.Views.{TmCounts};
 
     ghost Value = { TmCounts };
 

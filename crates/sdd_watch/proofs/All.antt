@@ -16,13 +16,12 @@ pub use Rattle.sdd_inside.specs.declared.moment.Moment.{Moment}
 pub use Rattle.sdd_inside.specs.declared.moment.PipeMoment.{PipeMoment}
 pub use Rattle.sdd_inside.specs.declared.moment.QueueMoment.{QueueMoment}
 pub use Rattle.sdd_inside.specs.declared.standing.Active.{Active}
-pub use Rattle.sdd_inside.specs.declared.standing.Head.{Head}
 pub use Rattle.sdd_inside.specs.declared.standing.Head.TheVariants.{Waits}
+pub use Rattle.sdd_inside.specs.declared.standing.Head.{Head}
 pub use Rattle.sdd_inside.specs.declared.standing.Question.{Question}
 pub use Rattle.sdd_inside.specs.declared.standing.SiteState.{SiteState}
-pub use Rattle.sdd_obligations.proofs.SitesAndLinks.{link_of_links, site_there}
-pub use Rattle.sdd_obligations.proofs.needs.OfNext.{IsThere, of_next}
 pub use Rattle.sdd_obligations.proofs.ReadSent.{site_sym as same_back}
+pub use Rattle.sdd_obligations.proofs.SitesAndLinks.{link_of_links, site_there}
 pub use Rattle.sdd_obligations.proofs.Sources.{source_is_home}
 pub use Rattle.sdd_obligations.proofs.Submitting.{le_true}
 pub use Rattle.sdd_obligations.proofs.catalog.Sound.{sound_whole}
@@ -38,22 +37,21 @@ pub use Rattle.sdd_obligations.proofs.invariants.Once.{processed_grows}
 pub use Rattle.sdd_obligations.proofs.invariants.Processed.{and_false}
 pub use Rattle.sdd_obligations.proofs.invariants.Sent.{sent_is}
 pub use Rattle.sdd_obligations.proofs.invariants.Sites.{site_is, site_self}
-pub use Rattle.sdd_obligations.proofs.invariants.logs.attempt.Noting.{any_result as all_ok}
 pub use Rattle.sdd_obligations.proofs.invariants.logs.dm.ByClass.{filter_same}
-pub use Rattle.sdd_obligations.proofs.invariants.logs.dm.Shown.{head_shown, met_is, waits_shown}
 pub use Rattle.sdd_obligations.proofs.logs.AsLists.{left_is_ahead}
 pub use Rattle.sdd_obligations.proofs.logs.Completing.{complete_parts, one_more, redeclare_next, settled}
 pub use Rattle.sdd_obligations.proofs.logs.Delivering.{ack_same}
 pub use Rattle.sdd_obligations.proofs.logs.Grows.{grows, lawful_grows, with_end}
-pub use Rattle.sdd_obligations.proofs.logs.NextMark.{mark_is_next}
 pub use Rattle.sdd_obligations.proofs.logs.Handing.{delivered_puts}
 pub use Rattle.sdd_obligations.proofs.logs.Links.{delivered_deliver, delivered_lose, delivered_repeat, delivered_resend}
 pub use Rattle.sdd_obligations.proofs.logs.Marking.{no_redeclare, ticked_none}
 pub use Rattle.sdd_obligations.proofs.logs.NewMarks.{lawful_permitted}
+pub use Rattle.sdd_obligations.proofs.logs.NextMark.{mark_is_next}
 pub use Rattle.sdd_obligations.proofs.logs.One.{IsBefore, limit_or_complete, one_chain, one_log}
 pub use Rattle.sdd_obligations.proofs.logs.Rounding.{no_events_quiet}
 pub use Rattle.sdd_obligations.proofs.logs.Steps.{none_any_base, none_does as does_none, none_more, none_same}
 pub use Rattle.sdd_obligations.proofs.logs.Turning.{part_up}
+pub use Rattle.sdd_obligations.proofs.needs.OfNext.{IsThere, of_next}
 pub use Rattle.sdd_obligations.proofs.net.Directions.{link_back}
 pub use Rattle.sdd_obligations.proofs.net.Lists.{All-at, get-append as in_left}
 pub use Rattle.sdd_obligations.proofs.net.Queues.{no_items}
@@ -61,24 +59,16 @@ pub use Rattle.sdd_obligations.proofs.net.SiteLists.{all_links_more, links_no, l
 pub use Rattle.sdd_obligations.proofs.net.Sound.{sound}
 pub use Rattle.sdd_obligations.proofs.serial_orders.Reading.{is_eq_nat, same_pair}
 pub use Rattle.sdd_obligations.proofs.tm.Lists.{of_map as in_mapped}
-pub use Rattle.sdd_obligations.proofs.tm.Queueing.{represents_queues}
 pub use Rattle.sdd_obligations.specs.All.{Ack, Act, Apply, Attempt, Call, Catalogue, Change, Class, ClassNo, ClassState, ClassView, Commit, Cond, D, Deliver, Did, DmNo, Does, Done, Down, Entry, Event, FitsStart, FragNo, Fragment, Hand, History, Input, IsClassHere, IsEraOf, IsGood, IsLawful, IsLinkOf, IsPermitted, IsPossible, IsServedClass, IsSiteOf, IsSoundCatalogue, IsTable, IsTheLog, IsWhole, Kept, Link, Log, Lose, MAX_DMS, MAX_TMS, Mark, Message, Msg, Notes, Null, Packet, Pipe, Puts, Queued, Read, Rec, Records, Redeclare, Redeclared, Redeclares, Repeat, Represent, Resend, Rests, Round, Sends, Setting, Settle, Site, Start, Submit, Submitted, T, TakesRounds, Tick, Ticked, TmNo, Ts, Txn, TxnNo, U, Up, View, Write, after_mark, all_links, all_of, are_linked, arrives, asks, base_of, bound_of, calls_of, class_at, class_for, class_in, class_no, clock, dated, deliver, delivered, dm_no, does_at, given_by, goes_through, greatest_bound, handed, hands_from, has_copy, head, head_of, history, holds, holds_back, home, is_down, is_empty, is_here, is_link, is_met, is_site, left, link, link_of, links, local_of, lose, mark_due, mark_from, mark_of, marks, newly_delivered, next, next_at, next_in, next_mark, note_if, nth_era, numbers_to, or_zero, packet_as, packet_at, pipe, puts, puts_to, quiet, redeclares, rel_no, repeat, resend, round, runs, same_site, sends_of_act, sent, setting_of, site_due, sites, spelled, takes_part as takes_at, time_at, time_of, tm_no, tried, turned, txn_at, txn_no, view_of, waits, with_event, with_packet, with_submit, without_packet}
-pub use Rattle.sdd_obligations.specs.attempt.Lines.{Line, awaited_by, lacked_by, tries_of_first}
+pub use Rattle.sdd_obligations.specs.attempt.Line.{Line}
 pub use Rattle.sdd_obligations.specs.attempt.Queues.{queue as queue_in_log, txn_of}
-pub use Rattle.sdd_obligations.specs.attempt.Phases.{awaited_in}
-pub use Rattle.sdd_obligations.specs.attempt.Sound.{IsLineOf, IsOfHead}
-pub use Rattle.sdd_obligations.specs.attempt.declared.answer.Answer.{Answer}
 pub use Rattle.sdd_obligations.specs.base.Words.{tail_of}
 pub use Rattle.sdd_obligations.specs.base.declared.value.Value.{Value}
 pub use Rattle.sdd_obligations.specs.copy.Contents.{Dated, latest, of_fragment}
 pub use Rattle.sdd_obligations.specs.copy.Copies.{Held, items_at}
 pub use Rattle.sdd_obligations.specs.copy.Items.{Items, row_in, row_of_item}
 pub use Rattle.sdd_obligations.specs.dm.Copies.{classes_of}
-pub use Rattle.sdd_obligations.specs.dm.Heads.{head_at, holds_in, is_met_in, unmet}
-pub use Rattle.sdd_obligations.specs.dm.Represents.{Shows}
-pub use Rattle.sdd_obligations.specs.dm.State.{State}
 pub use Rattle.sdd_obligations.specs.dm.Views.{class_view}
-pub use Rattle.sdd_obligations.specs.dm.Waiting.{holder_at, holders_in, holders_of, unmet_in, unmet_of}
 pub use Rattle.sdd_obligations.specs.history.declared.record.Rec.TheVariants.{Submit as Submission}
 pub use Rattle.sdd_obligations.specs.invariants.Steps.{changes_at}
 pub use Rattle.sdd_obligations.specs.lang.Fits.{FitsTxn}
@@ -98,12 +88,15 @@ pub use Rattle.sdd_run.proofs.OneReport.{one_list_of_tables}
 pub use Rattle.sdd_run.proofs.Reported.{ended}
 pub use Rattle.sdd_run.proofs.Starting.{all_allowed, starts}
 pub use Rattle.sdd_run.proofs.Whole.{rows_start}
+pub use Rattle.sdd_run.proofs.attempts.Noting.{any_result as all_ok}
+pub use Rattle.sdd_run.proofs.data_module.Shown.{head_shown, met_is, waits_shown}
 pub use Rattle.sdd_run.proofs.progress.ErasOf.{marks_up as marks_above}
 pub use Rattle.sdd_run.proofs.progress.Handed.{link_there}
 pub use Rattle.sdd_run.proofs.progress.Lists.{none_at}
 pub use Rattle.sdd_run.proofs.progress.NothingDue.{none_at_data}
 pub use Rattle.sdd_run.proofs.progress.Still.{d_site, t_site}
 pub use Rattle.sdd_run.proofs.progress.lawful.Touched.{copy_module}
+pub use Rattle.sdd_run.proofs.txn_module.Queueing.{represents_queues}
 pub use Rattle.sdd_run.proofs.world.Carrying.{ends_from, first_allowed, first_one, lists_stay, next_list, no_rounds, with_first}
 pub use Rattle.sdd_run.proofs.world.Failing.{handed_on}
 pub use Rattle.sdd_run.proofs.world.HomesExist.{no_txn, txn_read}
@@ -112,16 +105,25 @@ pub use Rattle.sdd_run.proofs.world.Results.{after_ok}
 pub use Rattle.sdd_run.proofs.world.Rounds.{few, free, rests_more as rests_given, round_before, round_ends, single}
 pub use Rattle.sdd_run.specs.Lent.{era_of_list}
 pub use Rattle.sdd_run.specs.Runs.{AreTables, EndsAtLimit, eras_with_tables, first_input, input_of}
+pub use Rattle.sdd_run.specs.attempts.Lines.{awaited_by, lacked_by, tries_of_first}
+pub use Rattle.sdd_run.specs.attempts.Sound.{IsLineOf, IsOfHead}
 pub use Rattle.sdd_run.specs.class_lists.InForce.{eras_in, whole_in}
+pub use Rattle.sdd_run.specs.data_module.Heads.{head_at, holds_in, is_met_in, unmet}
+pub use Rattle.sdd_run.specs.data_module.Represents.{Shows}
+pub use Rattle.sdd_run.specs.data_module.State.{State}
+pub use Rattle.sdd_run.specs.data_module.Waiting.{holder_at, holders_in, holders_of, unmet_in, unmet_of}
+pub use Rattle.sdd_run.specs.exchange.Phases.{awaited_in}
+pub use Rattle.sdd_run.specs.exchange.declared.answer.Answer.{Answer}
 pub use Rattle.sdd_run.specs.report.declared.copies.CopyTable.{CopyTable}
 pub use Rattle.sdd_run.specs.script.All.{IsValid}
 pub use Rattle.sdd_run.specs.script.declared.workload.Workload.{Workload}
+pub use Rattle.sdd_run.specs.txn_module.Represents.{Queues}
 pub use Rattle.sdd_run.specs.world.Beginnings.{AllBegin, BeginsD, IsBegun}
 pub use Rattle.sdd_run.specs.world.Copies.{tables_of}
 pub use Rattle.sdd_run.specs.world.Modules.{AllRepresent, LivesD, LivesT}
 pub use Rattle.sdd_run.specs.world.Pending.{commits}
-pub use Rattle.sdd_run.specs.world.Schedules.{AreAllowed, IsAllowed, lists_after, takes_rounds, with_events}
 pub use Rattle.sdd_run.specs.world.Represents.{Calm, EndsBy, Represents, Rounding, Settling, events_of}
+pub use Rattle.sdd_run.specs.world.Schedules.{AreAllowed, IsAllowed, lists_after, takes_rounds, with_events}
 pub use Rattle.sdd_run.specs.world.declared.ends.WorldEnd.{WorldEnd}
 pub use Rattle.sdd_run.specs.world.declared.schedule.ClassList.{ClassList}
 pub use Rattle.sdd_run.specs.world.declared.sites.Sites.{Sites}
@@ -132,20 +134,20 @@ pub use Rattle.sdd_watch.specs.Keeping.{IsLineInOrder, active_of, head_in, quest
 pub use Rattle.sdd_watch.specs.Looking.{AreAside, ArePipesSeen, AreSeen, advanced, all_waiting, looks, messages_in, numbers_for, queue_in, queue_of, queues_if, says, says_one, seen_with}
 pub use Rattle.sdd_watch.specs.Moments.{all_pipes, at_event, came, link_moment, moment_of, number_through, passed_to, pipe_moment, pipes_at_module, queue_moment, queues_at, queues_from, queues_of, source, time_passed}
 pub use Rattle.sdd_watch.specs.Reaching.{given_to, is_between, is_touched, may_act, may_change_from, reach_of, reach_of_delivery}
-pub use Rattle.sdd_watch.specs.States.{actives, head_by, phase_by, questions_to, report_head, reported_active, reported_attempt, reported_dm, reported_tm, says_applied, state_of, unapplied_of}
 pub use Rattle.sdd_watch.specs.ScheduleSoFar.{IsReported, IsTextOf, Tells, TellsBetween, TellsRound, TellsSettled}
+pub use Rattle.sdd_watch.specs.States.{actives, head_by, phase_by, questions_to, report_head, reported_active, reported_attempt, reported_dm, reported_tm, says_applied, state_of, unapplied_of}
 pub use Rattle.sdd_watch.specs.Text.{IsInsideOf, change, inside_text, line_of}
 pub use Rattle.sdd_watch.specs.Watching.{AreCommits, AreDones, IsBetween, IsMark, IsOver, IsTellable, IsToTell, IsTurn, Knows, Watches, all_sites, arrived, arrived_on, changed_links, changed_pipes, foresee_act, foresee_take, foreseen_by, handed_over, is_changed_link, is_changed_pipe, is_done_at, is_on, is_still_link, is_still_pipe, is_taken, left_between, left_of, link_after, link_before, links_from, pipe_after, pipe_before, queues_by, seen_between, taken_at, watched_link, watched_links, watched_pipe, watched_pipes}
 pub use Rattle.sdd_watch.specs.declared.both.Both.{Both}
 pub use Rattle.sdd_watch.specs.declared.commits.Commits.{Commits}
 pub use Rattle.sdd_watch.specs.declared.dones.Dones.{Dones}
-pub use Rattle.sdd_watch.specs.declared.foreseen.Foreseen.{Foreseen}
 pub use Rattle.sdd_watch.specs.declared.foreseen.Foreseen.TheVariants.{Something}
-pub use Rattle.sdd_watch.specs.declared.reach.Reach.{Reach}
+pub use Rattle.sdd_watch.specs.declared.foreseen.Foreseen.{Foreseen}
 pub use Rattle.sdd_watch.specs.declared.reach.Reach.TheVariants.{Across, Along, Around, From, Nowhere}
+pub use Rattle.sdd_watch.specs.declared.reach.Reach.{Reach}
 pub use Rattle.sdd_watch.specs.declared.teller.Teller.{Teller}
-pub use Rattle.sdd_watch.specs.declared.waiting.Purpose.{Purpose}
 pub use Rattle.sdd_watch.specs.declared.waiting.Purpose.TheVariants.{Applied}
+pub use Rattle.sdd_watch.specs.declared.waiting.Purpose.{Purpose}
 pub use Rattle.sdd_watch.specs.declared.watch.Turn.{Turn}
 pub use Rattle.sdd_watch.specs.declared.watch.Watch.{Watch}
 pub use Rattle.sdd_watch.specs.declared.watched_link.Arrived.{Arrived}
@@ -158,12 +160,12 @@ pub use Rattle.std.proofs.Math.Seq.{drop-append_seam, take-append_seam, take-tak
 pub use Rattle.std.proofs.lemmas.Bool.{and_parts, cases_Bool, cases_lt, lt-leb}
 pub use Rattle.std.proofs.lemmas.Int.{to_z-of_z}
 pub use Rattle.std.proofs.lemmas.Iterator.Adapters.{position_from-zero}
-pub use Rattle.std.proofs.lemmas.List.{drop-append-le, drop-take, drop_all, flat_map_more, get_or_default, get_or_past, length-map, map-append, take-append-le, take_more}
 pub use Rattle.std.proofs.lemmas.List.Concat.{flat_map-append}
 pub use Rattle.std.proofs.lemmas.List.Elements.{All-append, All-cons, All-filter, All-from_recursion, All-get_or, All-head, All-map, All-nil, All-tail, filter-append, filter_map-append}
 pub use Rattle.std.proofs.lemmas.List.Folds.{list_any-append, list_any_more}
 pub use Rattle.std.proofs.lemmas.List.FromFn.{map-range_with_len_more}
 pub use Rattle.std.proofs.lemmas.List.Sums.{fold-append}
+pub use Rattle.std.proofs.lemmas.List.{drop-append-le, drop-take, drop_all, flat_map_more, get_or_default, get_or_past, length-map, map-append, take-append-le, take_more}
 pub use Rattle.std.proofs.lemmas.Option.{slice_get-map}
 pub use Rattle.std.proofs.lemmas.Simd.{map-map}
 pub use Rattle.std.specs.BTreeMap.{get, is_at}

@@ -2,9 +2,9 @@
 -- For the contracts of the code: not needed to read `IsInsideOf`.
 use Rattle.std.specs.Prelude.{ℕ, List, map, option_map, Option, Some, None}
 use Rattle.sdd_obligations.specs.All.{ClassNo, ClassState, Cond, class_no}
-use Rattle.sdd_obligations.specs.attempt.Lines.{Line}
-use Rattle.sdd_obligations.specs.attempt.Sound.{IsOfHead}
-use Rattle.sdd_obligations.specs.tm.declared.asked.Asked.{Asked}
+use Rattle.sdd_obligations.specs.attempt.Line.{Line}
+use Rattle.sdd_run.specs.attempts.Sound.{IsOfHead}
+use Rattle.sdd_obligations.specs.site_rules.declared.asked.Asked.{Asked}
 use Rattle.sdd_inside.specs.declared.standing.Active.{Active}
 use Rattle.sdd_inside.specs.declared.standing.Head.{Head}
 use Rattle.sdd_inside.specs.declared.standing.Head.TheVariants as heads

@@ -13,8 +13,8 @@ use crate::both::Both;
 use crate::places::all_sites;
 use crate::reach::{Reach, may_act};
 use sdd_inside::QueueMoment;
-use sdd_obligations::{ClassRun, Line, Listed, NoMemory, Rec, Site, TmNo};
-use sdd_run::World;
+use sdd_obligations::{Listed, NoMemory, Rec, Site, TmNo};
+use sdd_run::{ClassRun, Line, World};
 use std::alloc::Global;
 use std::mem;
 

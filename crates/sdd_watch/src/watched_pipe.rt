@@ -19,8 +19,8 @@ use crate::taking_part::is_reached;
 use crate::waiting::Purpose;
 use crate::watched_link::Arrived;
 use sdd_inside::PipeMoment;
-use sdd_obligations::{Catalogue, ClassNo, DataModule, DmNo, Listed, NoMemory, Site, Ts};
-use sdd_run::World;
+use sdd_obligations::{Catalogue, ClassNo, DmNo, Listed, NoMemory, Site, Ts};
+use sdd_run::{DataModule, World};
 use std::alloc::Global;
 
 /// The pipe of a class at a data module, as it stood when the last event was over.

@@ -7,12 +7,12 @@ pub use Rattle.sdd_needs.proofs.base.Opened.{slice_get-append}
 pub use Rattle.sdd_needs.proofs.class_eras.EraFits.{fits_in_era}
 pub use Rattle.sdd_needs.proofs.graph.Lists.{each_more, up_to}
 pub use Rattle.sdd_needs.proofs.logs.tm.Lists.{of_map as in_mapped}
-pub use Rattle.sdd_needs.proofs.logs.tm.Queueing.{represents_queues}
-pub use Rattle.sdd_needs.proofs.logs.Steps.{other_local_hand as other_hand}
-pub use Rattle.sdd_needs.proofs.logs.attempt.exec.Sieves.{not_true as up_of}
-pub use Rattle.sdd_needs.proofs.logs.attempt.exec.Steps.{flat_map_same as joined_same}
+pub use Rattle.sdd_tm.proofs.Queueing.{represents_queues}
+pub use Rattle.sdd_needs.proofs.logs.Steps.{after_acts, other_local_hand as other_hand}
+pub use Rattle.sdd_attempt.proofs.exec.Sieves.{not_true as up_of}
+pub use Rattle.sdd_attempt.proofs.exec.Steps.{flat_map_same as joined_same}
 pub use Rattle.sdd_needs.proofs.logs.dm.ByClass.{all_same}
-pub use Rattle.sdd_needs.proofs.logs.dm.Taking.{nothing_due}
+pub use Rattle.sdd_dm.proofs.Taking.{nothing_due}
 pub use Rattle.sdd_needs.proofs.logs.net.Directions.{within as numbered}
 pub use Rattle.sdd_needs.proofs.logs.net.Lists.{get-last as last_member}
 pub use Rattle.sdd_needs.proofs.logs.net.Matching.{on_both as on_ok}
@@ -33,7 +33,6 @@ pub use Rattle.sdd_needs.proofs.logs.Marking.{IsNoTick, TurnsNone, handed_still,
 pub use Rattle.sdd_needs.proofs.logs.Permitted.{next_allowed}
 pub use Rattle.sdd_needs.proofs.logs.Rounding.{each_of_round, no_events_quiet}
 pub use Rattle.sdd_needs.proofs.logs.SpelledLinks.{delivery_map, link_map}
-pub use Rattle.sdd_needs.proofs.logs.Steps.{after_acts}
 pub use Rattle.sdd_needs.proofs.logs.Submitting.{acts_lawful, home_in, other_local, submits_and_acts, submits_to_wait, submitted, submitted_lawful, submitted_local, submitted_within}
 pub use Rattle.sdd_needs.proofs.logs.Turning.{comes_up, goes_down, is_down_already, isnt_down, part_here, resumes_lawful, up_within}
 pub use Rattle.sdd_needs.proofs.net.Deliveries.{acked_le, sent_of}
@@ -46,8 +45,8 @@ pub use Rattle.sdd_needs.specs.copy.Contents.{Dated}
 pub use Rattle.sdd_needs.specs.dm.Due.{head_step}
 pub use Rattle.sdd_needs.specs.dm.Pipes.{waits_acted}
 pub use Rattle.sdd_needs.specs.dm.Waiting.{conds_of, waiting_at}
-pub use Rattle.sdd_needs.specs.dm.declared.step.Step.{Step}
-pub use Rattle.sdd_needs.specs.dm.declared.step.Step.TheVariants.{Refuses, Waits}
+pub use Rattle.sdd_needs.specs.site_rules.declared.step.Step.{Step}
+pub use Rattle.sdd_needs.specs.site_rules.declared.step.Step.TheVariants.{Refuses, Waits}
 pub use Rattle.sdd_needs.specs.history.declared.record.Rec.TheVariants.{Submit as Submission}
 pub use Rattle.sdd_needs.specs.logs.Due.{home_of}
 pub use Rattle.sdd_needs.specs.logs.Permitted.{IsDueAt}

@@ -1,10 +1,10 @@
 -- The modules of a system before its first event: each represents the beginning of its site's log.
 use Rattle.sdd_world.proofs.All.{AllBegin, At, BeginsD, BeginsT, Catalogue, D, Entry, Input, IsBegun, IsSiteOf, Kept, List, LivesD, LivesT, LivesU, None, Option, Redeclared, Representation, RepresentsAt, Setting, Site, Some, T, There, Txn, U, [], and_parts, beginning, leb-true, nat_le, refl, rows_of, setting_of, slice_get, subst, sym, takes_part, true, ◌-◌, ◌∷◌, ◌≡◌, ◌≤◌}
-use Rattle.sdd_needs.specs.dm.Represents as dm
-use Rattle.sdd_needs.specs.dm.State as dm_state
-use Rattle.sdd_needs.specs.tm.Represents as tm
+use Rattle.sdd_dm.specs.Represents as dm
+use Rattle.sdd_dm.specs.State as dm_state
+use Rattle.sdd_tm.specs.Represents as tm
 use Rattle.sdd_needs.specs.tm.State as tm_state
-use Rattle.sdd_needs.specs.umod.Represents as um
+use Rattle.sdd_umod.specs.Represents as um
 use Rattle.sdd_needs.specs.umod.State as um_state
 use Rattle.sdd_needs.specs.site_module.SiteLog as site
 

@@ -33,3 +33,7 @@ pub mod HomesExist
 pub mod Lists
 pub mod Outsiders
 pub mod Results
+pub use Rattle.sdd_attempt.proofs as attempts
+pub use Rattle.sdd_dm.proofs as data_module
+pub use Rattle.sdd_tm.proofs as txn_module
+pub use Rattle.sdd_umod.proofs as u_module

@@ -4,7 +4,7 @@ use Rattle.sdd_world.proofs.Handing.{are_linked, due_same}
 use Rattle.sdd_world.proofs.Parting.{all_after, events_before, later, position_acts, redeclares_acts, spooled_acts}
 use Rattle.sdd_world.proofs.Placing.{other_way, part_is, site_of}
 use Rattle.sdd_needs.specs.dm.Due as dm_due
-use Rattle.sdd_needs.specs.dm.State as dm_state
+use Rattle.sdd_dm.specs.State as dm_state
 use Rattle.sdd_needs.specs.site_module.SiteLog as site
 
 -- another site takes part as before

@@ -5,8 +5,8 @@ use Rattle.sdd_needs.specs.site_module.SiteLog.{Does}
 use Rattle.sdd_needs.specs.site_module.SiteLog as site
 use Rattle.sdd_needs.specs.tm.Due as tm_due
 use Rattle.sdd_needs.specs.tm.Fits as tm_fits
-use Rattle.sdd_needs.specs.tm.Represents as tm
-use Rattle.sdd_needs.specs.dm.State as dm_state
+use Rattle.sdd_tm.specs.Represents as tm
+use Rattle.sdd_dm.specs.State as dm_state
 use Rattle.sdd_needs.specs.tm.State as tm_state
 use Rattle.sdd_needs.specs.umod.State as um_state
 

@@ -2,9 +2,9 @@
 use Rattle.std.specs.Prelude.{ℕ, ◌-◌, ◌≤◌, ◌≡◌, List, [], ◌∷◌, length, slice_get, Option, Some, None}
 use Rattle.sdd_needs.specs.All.{Catalogue, D, Input, Kept, Redeclared, RelNo, Row, Setting, T, Txn, dm_no, nth_era, rows_of, tm_no}
 use Rattle.sdd_needs.specs.protocol.declared.entry.Entry.{Entry}
-use Rattle.sdd_needs.specs.dm.Represents as dm
-use Rattle.sdd_needs.specs.dm.State as dm_state
-use Rattle.sdd_needs.specs.tm.Represents as tm
+use Rattle.sdd_dm.specs.Represents as dm
+use Rattle.sdd_dm.specs.State as dm_state
+use Rattle.sdd_tm.specs.Represents as tm
 use Rattle.sdd_needs.specs.tm.State as tm_state
 
 -- the module that is looked for is there, and has this

@@ -11,3 +11,8 @@ pub mod Standings
 pub mod Copies
 pub mod LastHomes
 pub mod Pending
+pub use Rattle.sdd_attempt.specs as attempts
+pub use Rattle.sdd_attempt.specs.exchange as exchange
+pub use Rattle.sdd_dm.specs as data_module
+pub use Rattle.sdd_tm.specs as txn_module
+pub use Rattle.sdd_umod.specs as u_module

@@ -2,10 +2,10 @@
 use Rattle.std.specs.Prelude.{ℕ, ◌≡◌, Bool, true, false}
 use Rattle.sdd_needs.specs.All.{Era, Input, IsSiteOf, Kept, Log, Setting, Site, local_of, same_site, setting_of, takes_part, with_era}
 use Rattle.sdd_needs.specs.site_module.SiteLog as site
-use Rattle.sdd_needs.specs.dm.Represents as dm
-use Rattle.sdd_needs.specs.tm.Represents as tm
-use Rattle.sdd_needs.specs.umod.Represents as um
-use Rattle.sdd_needs.specs.dm.State as dm_state
+use Rattle.sdd_dm.specs.Represents as dm
+use Rattle.sdd_tm.specs.Represents as tm
+use Rattle.sdd_umod.specs.Represents as um
+use Rattle.sdd_dm.specs.State as dm_state
 use Rattle.sdd_needs.specs.tm.State as tm_state
 use Rattle.sdd_needs.specs.umod.State as um_state
 use Rattle.sdd_world.specs.AtSites.{Lives, Representation, RepresentsAt}

@@ -5,7 +5,7 @@ use Rattle.std.specs.Option.{option_map}
 use Rattle.sdd_needs.specs.All.{Commit, Cond, D, Input, Log, Rec, Setting, Site, Standing, Submitted, TxnNo, U, dm_no, history, is_met, local_of, numbers_to, setting_of, view_of}
 use Rattle.sdd_needs.specs.history.declared.record.Rec.TheVariants.{Submit}
 use Rattle.sdd_needs.specs.site_module.SiteLog as site
-use Rattle.sdd_needs.specs.attempt.declared.standing.Standing.TheVariants as standings
+use Rattle.sdd_needs.specs.site_rules.declared.standing.Standing.TheVariants as standings
 use Rattle.sdd_needs.specs.dm.Waiting.{waiting_at}
 use Rattle.sdd_report.specs.Pending.{under_way}
 use Rattle.sdd_report.specs.declared.pending.Pending.{Pending}

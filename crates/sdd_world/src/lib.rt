@@ -38,3 +38,9 @@ pub use making::data_modules;
 pub use schedule::{ClassList, carry_out};
 pub use sites::Sites;
 pub use world::World;
+
+// What lies below, for the crates above.
+pub use sdd_attempt::{Answer, Line};
+pub use sdd_dm::{ClassNos, DataModule};
+pub use sdd_tm::{Asked, ClassRun, TxnModule};
+pub use sdd_umod::UModule;

@@ -1,7 +1,7 @@
 """Clocks, and the line of a class: its transactions one after the other, each in attempts.
 
 An attempt sends READs, gets rows, and commits with a WRITE to each module that has a copy of what it changes; a REJECT
-ends it, and its transaction starts again. Definition: crates/sdd_attempt/specs/Clocks.antt, Queues.antt, Attempts.antt,
+ends it, and its transaction starts again. Definition: crates/sdd_rules/specs/attempt/Clocks.antt, Queues.antt, Attempts.antt,
 Acts.antt, Standings.antt.
 """
 from dataclasses import dataclass

@@ -1,7 +1,7 @@
 """A data module: a pipe for each class, copies of fragments, and the rows that it holds frozen for attempts.
 
 What comes through a pipe is processed in order: a NULL passes, a WRITE is applied unless a READ that waits must not see
-it, a READ is rejected, answered, or waits until each of its conditions is met. Definition: crates/sdd_dm/specs/Due.antt,
+it, a READ is rejected, answered, or waits until each of its conditions is met. Definition: crates/sdd_rules/specs/dm/Due.antt,
 Views.antt, Copies.antt; crates/sdd_pipe/specs/Pipe.antt, sdd_copy/specs/Contents.antt, Frozen.antt.
 """
 from sdd.model.workload import Site, U

@@ -2,7 +2,7 @@
 
 A reducer step takes the values of one use's column and leaves of another use the rows that have one of them; of the
 steps that aren't done and whose source has fewer rows than their target the one with the fewest source rows is next.
-Definition: crates/sdd_attempt/specs/Exchange.antt, crates/sdd_semijoin/specs/Steps.antt.
+Definition: crates/sdd_rules/specs/attempt/Exchange.antt, crates/sdd_semijoin/specs/Steps.antt.
 """
 from typing import NamedTuple
 

@@ -1,7 +1,7 @@
 """A transaction module: it runs the classes that are at home there, answers ASKs by NULLs, and holds for U.
 
 Of what is due the first is done: what attempts send and their Commits; then NULLs; then a HELD; then Starts, which stop
-while the module is on hold. Definition: crates/sdd_tm/specs/Due.antt, Views.antt.
+while the module is on hold. Definition: crates/sdd_rules/specs/tm/Due.antt, Views.antt.
 """
 from sdd.model.workload import U
 from sdd.reference.attempts import Clock, Line, Queued

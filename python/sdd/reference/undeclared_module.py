@@ -1,7 +1,7 @@
 """The module at U: it runs the transactions that no class covers, each alone.
 
 It tells every transaction module to hold, starts once all have ended what they were at, writes everywhere, and releases
-them once every data module has applied that. Definition: crates/sdd_umod/specs/Due.antt, Views.antt, Standing.antt.
+them once every data module has applied that. Definition: crates/sdd_rules/specs/umod/Due.antt, Views.antt, Standing.antt.
 """
 from sdd.model.workload import Site
 from sdd.reference.attempts import Clock, Line, Queued

@@ -1,5 +1,4 @@
-use Rattle.sdd_dm.proofs.All.{arith, holds_in, length, sym, ◌<◌, ◌∙◌}
-use Rattle.sdd_dm.proofs.ByClass.{any_class}
+use Rattle.sdd_dm.proofs.All.{any_class, arith, holds_in, length, sym, ◌<◌, ◌∙◌}
 use Rattle.sdd_dm.proofs.holding.holds_still.Goals as goal
 
 pub returns : goal.returns

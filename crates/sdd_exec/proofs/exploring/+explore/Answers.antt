@@ -1,5 +1,4 @@
-use Rattle.sdd_exec.proofs.All.{Has, IsExplored, IsExploredAt, IsSoundAt, List, NoneComesAt, Row, arith, length, placed, slice_get, slice_index_or, subst, sym, ℕ, Some, ◌∙◌, ◌≡◌}
-use Rattle.sdd_exec.proofs.Members.{Has-get_or}
+use Rattle.sdd_exec.proofs.All.{Has, Has-get_or, IsExplored, IsExploredAt, IsSoundAt, List, NoneComesAt, Row, Some, arith, length, placed, slice_get, slice_index_or, subst, sym, ℕ, ◌∙◌, ◌≡◌}
 use Rattle.sdd_exec.proofs.Stepped.{all_at, answered_at, dead_at, dead_explored_at, explored_at, got_at, known_at, more_at, neither, none_all_at, none_at, none_if, none_more_at, of_all, remembered_at, remembered_dead_at, sound_at, untold_at, whole_at}
 use Rattle.sdd_exec.proofs.exploring.+explore.Goals as goal
 

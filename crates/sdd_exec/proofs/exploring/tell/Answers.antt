@@ -1,5 +1,4 @@
-use Rattle.sdd_exec.proofs.All.{both, sym, values_of, ◌∙◌}
-use Rattle.sdd_exec.proofs.Distinct.{old_there, new_there}
+use Rattle.sdd_exec.proofs.All.{both, new_there, old_there, sym, values_of, ◌∙◌}
 use Rattle.sdd_exec.proofs.Kept.{answer_there, kept_told}
 use Rattle.sdd_exec.proofs.exploring.tell.Goals as goal
 

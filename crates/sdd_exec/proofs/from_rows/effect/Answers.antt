@@ -1,5 +1,4 @@
-use Rattle.sdd_exec.proofs.All.{Effect, IfOk-weaker, chosen_for, effect, effect_over, found_for, ◌∙◌, ◌≡◌}
-use Rattle.sdd_exec.proofs.Serving.{served_effect}
+use Rattle.sdd_exec.proofs.All.{Effect, IfOk-weaker, chosen_for, effect, effect_over, found_for, served_effect, ◌∙◌, ◌≡◌}
 use Rattle.sdd_exec.proofs.from_rows.effect.Goals as goal
 
 pub returns : goal.returns

@@ -1,5 +1,4 @@
-use Rattle.sdd_exec.proofs.All.{Has, subst, sym, ◌≡◌}
-use Rattle.sdd_exec.proofs.Members.{Has-get_or}
+use Rattle.sdd_exec.proofs.All.{Has, Has-get_or, subst, sym, ◌≡◌}
 use Rattle.sdd_exec.proofs.Planned.{made_serves}
 use Rattle.sdd_exec.proofs.plan.made_for.Goals as goal
 

@@ -1,6 +1,5 @@
 -- One transaction module more.
-use Rattle.sdd_umod.proofs.All.{no_counts, ◌∙◌}
-use Rattle.sdd_umod.proofs.Lists.{numbers_more}
+use Rattle.sdd_umod.proofs.All.{no_counts, numbers_more, ◌∙◌}
 use Rattle.sdd_umod.proofs.parts.first_counts.Goals as goal
 
 pub loop-tm-preserved : goal.loop-tm-preserved

@@ -1,6 +1,5 @@
 -- One more is counted.
-use Rattle.sdd_umod.proofs.All.{ap, counted, sym, ◌∙◌}
-use Rattle.sdd_umod.proofs.Lists.{changed_more}
+use Rattle.sdd_umod.proofs.All.{ap, changed_more, counted, sym, ◌∙◌}
 use Rattle.sdd_umod.proofs.tm_count.count.Goals as goal
 
 pub loop-one-preserved : goal.loop-one-preserved

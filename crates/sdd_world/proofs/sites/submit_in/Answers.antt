@@ -2,7 +2,7 @@ use Rattle.sdd_world.proofs.All.{get-set_other}
 use Rattle.sdd_world.proofs.ByTable.{submitted_in}
 use Rattle.sdd_needs.specs.tm.Due as tm
 use Rattle.sdd_needs.specs.tm.Fits as tm_fits
-use Rattle.sdd_needs.specs.tm.Represents as tm_represents
+use Rattle.sdd_tm.specs.Represents as tm_represents
 use Rattle.sdd_world.proofs.sites.submit_in.Goals as goal
 
 pub returns-clause-law : goal.returns-clause-law

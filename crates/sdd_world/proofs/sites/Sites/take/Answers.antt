@@ -2,13 +2,13 @@ use Rattle.sdd_world.proofs.All.{Lives, refl}
 use Rattle.sdd_world.proofs.ByTable.{lives_take, take_u, take_t, take_d}
 use Rattle.sdd_needs.specs.dm.Due as dm
 use Rattle.sdd_needs.specs.dm.Fits as dm_fits
-use Rattle.sdd_needs.specs.dm.Represents as dm_represents
+use Rattle.sdd_dm.specs.Represents as dm_represents
 use Rattle.sdd_needs.specs.tm.Due as tm
 use Rattle.sdd_needs.specs.tm.Fits as tm_fits
-use Rattle.sdd_needs.specs.tm.Represents as tm_represents
+use Rattle.sdd_tm.specs.Represents as tm_represents
 use Rattle.sdd_needs.specs.umod.Due as um
 use Rattle.sdd_needs.specs.umod.Fits as um_fits
-use Rattle.sdd_needs.specs.umod.Represents as um_represents
+use Rattle.sdd_umod.specs.Represents as um_represents
 use Rattle.sdd_world.proofs.sites.Sites.take.Goals as goal
 
 pub returns-in-U-clause-law : goal.returns-in-U-clause-law

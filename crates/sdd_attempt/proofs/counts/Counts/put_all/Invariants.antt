@@ -1,5 +1,0 @@
-use Rattle.sdd_attempt.proofs.All.{counted, drop, ◌≡◌}
-use Rattle.sdd_attempt.proofs.counts.Counts.put_all.Given as goal
-
-abbrev pub invariant-loop-new : goal.invariant-loop-new
-invariant-loop-new l = counted l.dm.0 (drop l.new-index l.news) l.self ≡ counted l.dm.0 l.news l.initial.self

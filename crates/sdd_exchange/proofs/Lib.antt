@@ -1,0 +1,7 @@
+mod All
+pub mod Addressed
+pub mod Counting
+pub mod Going
+pub mod Reading
+pub mod Room
+pub mod Small

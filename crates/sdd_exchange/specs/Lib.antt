@@ -1,0 +1,5 @@
+pub mod Counts
+pub mod Modules
+pub mod Outbox
+pub mod Phases
+pub mod Room

@@ -1,0 +1,4 @@
+-- Of the module for undeclared transactions of the site U.
+pub mod Counts
+pub mod Lists
+pub mod ViewSteps

@@ -1,0 +1,15 @@
+use Rattle.sdd_running.proofs.All.{dm_no}
+use Rattle.sdd_running.proofs.Reading.{module_more, sent_more}
+use Rattle.sdd_running.proofs.reads.send_reads_to.Goals as goal
+
+pub loop-dm-preserved : goal.loop-dm-preserved
+loop-dm-preserved c =
+    let b = c.args.beginning.now in
+    let dms = c.args.dms.now in
+    let i = c.loop-dm.dm-index in
+    record {
+      draft = sent_more b dms i
+          (dm_no 0) c.in_ok-read.read c.args.draft.now c.loop-dm.draft c.send.new.self c.loop-dm-test.true c.in_ok-read.ensures c.loop-dm.invariant.draft c.in_ok-send.ensures;
+      modules = module_more b dms i
+          (dm_no 0) c.in_ok-read.read c.loop-dm.modules c.add.new.self c.loop-dm-test.true c.in_ok-read.ensures c.loop-dm.invariant.modules c.in_ok-add.ensures;
+    }

@@ -1,0 +1,4 @@
+mod All
+pub mod Ascending
+pub mod Members
+pub mod Serving
