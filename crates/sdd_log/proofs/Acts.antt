@@ -65,7 +65,8 @@ ends_in_acts g at [] log e w l = cc
 ends_in_acts g at (a ∷ acts) log e w l =
     let k : IsLawful g (Does at a ∷ log) = lawful_before g at acts (Does at a ∷ log) l in
     elim (puts_past (calls_of log) at (sends_of_act a)) as
-    (λ b. puts_past (calls_of log) at (sends_of_act a) ≡ b → (b || puts_past (calls_of (Does at a ∷ log)) at (sends_of acts)) ≡ true → (more : Log) × EndsByLimit g more) [
+    (λ b. puts_past (calls_of log) at (sends_of_act a) ≡ b → (b || puts_past (calls_of (Does at a ∷ log)) at (sends_of acts)) ≡ true
+    → (more : Log) × EndsByLimit g more) [
       | true ↦ λ p r. (log, record { lawful = k.1; within = w; entry = Does at a; next_is = k.0; past = p })
       | false ↦ λ p r. ends_in_acts g at acts (Does at a ∷ log) r (p, w) l
     ] refl (sym (puts_past-append at (sends_of_act a) (sends_of acts) (calls_of log)) ∙ e)

@@ -21,7 +21,8 @@ module _ (g : Input) (a b : Site) (k : ℕ) (log : Log) (m : IsMarked g log (Del
   pub delivers_nothing : delivery k (link_of a b log) ≡ Nothing → Rests g (Notes ∷ Mark (Deliver a b k) ∷ log)
   delivers_nothing e =
       let t = by_nothing (packet_at k (link_of a b log)) k (link_of a b log) (newly_delivered (link_of a b log).there (deliver k (link_of a b log)).there) e in
-      rests_noted g log (Deliver a b k) m tt (λ x part. part) (ap note_if t.1) (handed_still log (Deliver a b k) tt (same_delivered a b k log t.0) m.rests.handed_all)
+      rests_noted g log (Deliver a b k) m tt (λ x part. part) (ap note_if t.1)
+      (handed_still log (Deliver a b k) tt (same_delivered a b k log t.0) m.rests.handed_all)
 
   pub delivers_ack : delivery k (link_of a b log) ≡ Acked → Rests g (Mark (Deliver a b k) ∷ log)
   delivers_ack e =
@@ -34,7 +35,10 @@ in_both : {A : Type 0} (P : ℕ → A → Type 0) (xs ys : List A) → ((j : ℕ
     → ((j : ℕ) (y : A) → slice_get ys j ≡ Some y → P (length xs + j) y) → (i : ℕ) (x : A) → slice_get (xs ++ ys) i ≡ Some x → P i x
 in_both P [] ys f h i x e = let z : 0 + i ≡ i = omega arith in subst (λ n. P n x) z (h i x e)
 in_both P (z ∷ xs) ys f h zero x e = f 0 x e
-in_both P (z ∷ xs) ys f h (suc i) x e = grind (arith, (in_both (λ j y. P (suc j) y) xs ys (λ j y p. f (suc j) y p) (λ j y p. let s : suc (length xs) + j ≡ suc (length xs + j) = omega arith in subst (λ n. P n y) s (h j y p)) i x e))
+in_both P (z ∷ xs) ys f h (suc i) x e =
+    let rest = in_both (λ j y. P (suc j) y) xs ys (λ j y p. f (suc j) y p)
+    (λ j y p. let s : suc (length xs) + j ≡ suc (length xs + j) = omega arith in subst (λ n. P n y) s (h j y p)) i x e in
+    grind (arith, rest)
 
 -- an event that brings nothing leaves what is delivered
 pub nothing_same : (a b : Site) (k : ℕ) (log : Log) → delivery k (link_of a b log) ≡ Nothing → (x y : Site)

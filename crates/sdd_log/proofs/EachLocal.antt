@@ -51,16 +51,20 @@ pub record HoldsOfEach (g : Input) (at : Site) (P : site.Log → site.Entry → 
 each_if : (P : site.Log → site.Entry → Type 0) (b : Bool) (k l : site.Log) → (b ≡ true → Each P k) → Each P l → Each P (if b then k else l)
 each_if P b k l f h = grind arith
 
-each_submit : (P : site.Log → site.Entry → Type 0) (n : ℕ) (o : Option Txn) (l : site.Log) → ((t : Txn) → o ≡ Some t → P l (Submits n t)) → Each P l → Each P (with_submit n o l)
+each_submit : (P : site.Log → site.Entry → Type 0) (n : ℕ) (o : Option Txn) (l : site.Log) → ((t : Txn) → o ≡ Some t → P l (Submits n t)) → Each P l
+    → Each P (with_submit n o l)
 each_submit P n o l f h = grind arith
 
-each_beginning : (g : Input) (at : Site) (P : site.Log → site.Entry → Type 0) → ((l : site.Log) (k t : ℕ) → Each P l → P l (Redeclared (nth_era g k) t)) → Each P (beginning g at)
+each_beginning : (g : Input) (at : Site) (P : site.Log → site.Entry → Type 0)
+    → ((l : site.Log) (k t : ℕ) → Each P l → P l (Redeclared (nth_era g k) t)) → Each P (beginning g at)
 each_beginning g at P f = grind arith
 
-every_era : (at : Site) (P : site.Log → site.Entry → Type 0) (era : Era) (t : ℕ) (l : site.Log) → P l (Redeclared era t) → Each P l → Each P (with_era at era t l)
+every_era : (at : Site) (P : site.Log → site.Entry → Type 0) (era : Era) (t : ℕ) (l : site.Log) → P l (Redeclared era t) → Each P l
+    → Each P (with_era at era t l)
 every_era at P era t l f h = grind arith
 
-pub each_local : (g : Input) (at : Site) (P : site.Log → site.Entry → Type 0) → HoldsOfEach g at P → (log : Log) → IsPermitted g log → Each P (local_of g at log)
+pub each_local : (g : Input) (at : Site) (P : site.Log → site.Entry → Type 0) → HoldsOfEach g at P → (log : Log) → IsPermitted g log
+    → Each P (local_of g at log)
 each_local g at P c [] h = each_beginning g at P c.redeclared
 each_local g at P c (Mark (Tick t n) ∷ log) h =
     let i = each_local g at P c log h.1 in

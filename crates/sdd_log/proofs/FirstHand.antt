@@ -57,7 +57,8 @@ has_front : (at : Site) (xs ys : List Site) → has_site at xs ≡ true → has_
 has_front at [] ys h = cc
 has_front at (x ∷ xs) ys h =
     elim (same_site x at) as
-    (λ b. elim b as (λ _. Bool) [ true ↦ true | false ↦ has_site at xs ] ≡ true → elim b as (λ _. Bool) [ true ↦ true | false ↦ has_site at (xs ++ ys) ] ≡ true) [
+    (λ b. elim b as (λ _. Bool) [ true ↦ true | false ↦ has_site at xs ] ≡ true
+    → elim b as (λ _. Bool) [ true ↦ true | false ↦ has_site at (xs ++ ys) ] ≡ true) [
       | true ↦ λ p. refl
       | false ↦ λ p. has_front at xs ys p
     ] h
@@ -113,7 +114,12 @@ one_to f all a b e here linked p aside =
     let s : Split all b = split all b here in
     first_filter f (λ y. cond (are_linked a y) (Some (a, y)) None) all
     ∙ ap (λ ys. first_some (λ y. through f (cond (are_linked a y) (Some (a, y)) None)) ys) s.parts
-    ∙ (rw (first_append (λ y. through f (cond (are_linked a y) (Some (a, y)) None)) s.before (b ∷ s.after), first_none_before (λ y. through f (cond (are_linked a y) (Some (a, y)) None)) s.before (grind (arith, each_weaker, same_site, through, are_linked, link_other)), (link_here f a b (are_linked a b) e linked p)) refl)
+    ∙ (rw (
+      first_append (λ y. through f (cond (are_linked a y) (Some (a, y)) None)) s.before (b ∷ s.after),
+      first_none_before (λ y. through f (cond (are_linked a y) (Some (a, y)) None)) s.before
+          (grind (arith, each_weaker, same_site, through, are_linked, link_other)),
+      (link_here f a b (are_linked a b) e linked p),
+    ) refl)
 
 -- of the links from a, and from the sites before it, the one to b alone has something
 pub first_link : {B : Type 0} (f : Site × Site → Option B) (tms dms : ℕ) (before after : List Site) (a b : Site) (e : B)
@@ -122,7 +128,13 @@ pub first_link : {B : Type 0} (f : Site × Site → Option B) (tms dms : ℕ) (b
 first_link f tms dms before after a b e parts l p earlier aside =
     let k = link_parts tms dms a b l in
     first_flat f (from_site (sites tms dms)) (sites tms dms) ∙ ap (λ xs. first_some (λ x. first_some f (from_site (sites tms dms) x)) xs) parts
-    ∙ (rw (first_append (λ x. first_some f (from_site (sites tms dms) x)) before (a ∷ after), first_none_before (λ x. first_some f (from_site (sites tms dms) x)) before (each_weaker (λ x. (y : Site) → f (x, y) ≡ None) (λ x. first_some f (from_site (sites tms dms) x) ≡ None) before (λ x h. none_from f (sites tms dms) x h) earlier), (one_to f (sites tms dms) a b e (listed tms dms b k.to) k.linked p aside)) refl)
+    ∙ (rw (
+      first_append (λ x. first_some f (from_site (sites tms dms) x)) before (a ∷ after),
+      first_none_before (λ x. first_some f (from_site (sites tms dms) x)) before
+          (each_weaker (λ x. (y : Site) → f (x, y) ≡ None) (λ x. first_some f (from_site (sites tms dms) x) ≡ None) before
+          (λ x h. none_from f (sites tms dms) x h) earlier),
+      (one_to f (sites tms dms) a b e (listed tms dms b k.to) k.linked p aside),
+    ) refl)
 
 -- what is to be handed over on one link
 

@@ -7,7 +7,8 @@ use Rattle.sdd_log.proofs.Links.{delivered_put, sent_stays}
 
 -- what a site puts
 
-pub delivered_puts : (x y at : Site) (sends : List (Site × Msg)) (calls : List (Call Msg)) → delivered (link x y (puts at sends calls)).there ≡ delivered (link x y calls).there
+pub delivered_puts : (x y at : Site) (sends : List (Site × Msg)) (calls : List (Call Msg))
+    → delivered (link x y (puts at sends calls)).there ≡ delivered (link x y calls).there
 delivered_puts x y at [] calls = refl
 delivered_puts x y at (s ∷ sends) calls = delivered_puts x y at sends (Puts at s.0 s.1 ∷ calls) ∙ delivered_put x y at s.0 s.1 calls
 
@@ -33,7 +34,8 @@ remain_handed log a b m rest r =
     let h : handed a b (Hand a b (suc (handed a b log)) m ∷ log) ≡ suc (handed a b log) = (rw (same_here a, same_here b) refl) in
     record {
       count = omega (arith, h, r.count);
-      messages = λ i x e. let f : handed a b (Hand a b (suc (handed a b log)) m ∷ log) + i ≡ handed a b log + suc i = omega (arith, h) in rw f (r.messages (suc i) x e);
+      messages = λ i x e.
+          let f : handed a b (Hand a b (suc (handed a b log)) m ∷ log) + i ≡ handed a b log + suc i = omega (arith, h) in rw f (r.messages (suc i) x e);
     }
 
 pub remain_other : (log : Log) (a b x y : Site) (n : ℕ) (m : Msg) (rest : List Msg) → (same_site x a && same_site y b) ≡ false → Remain log x y rest
@@ -51,12 +53,14 @@ none_earlier g log b kept w x e y = grind (arith, IsDone, done_at)
 part_handed : (y a b : Site) (n : ℕ) (m : Msg) (log : Log) → takes_part y (Hand a b n m ∷ log) ≡ takes_part y log
 part_handed y a b n m log = grind arith
 
-module _ (g : Input) (log : Log) (b : Site) (kept : Site → List Msg) (w : Waits g log b kept) (a : Site) (m : Msg) (rest : List Msg) (f : IsFirst g kept a b m rest) where
+module _ (g : Input) (log : Log) (b : Site) (kept : Site → List Msg) (w : Waits g log b kept) (a : Site) (m : Msg) (rest : List Msg)
+    (f : IsFirst g kept a b m rest) where
   first_remains : Remain log a b (m ∷ rest)
   first_remains = subst (λ l. Remain log a b l) f.here (w.remain a)
 
   pub first_message : message_at a b (suc (handed a b log)) log ≡ Some m
-  first_message = let e : suc (handed a b log) - 1 ≡ handed a b log + 0 = omega arith in ap (λ n. slice_get (sent a b log) n) e ∙ first_remains.messages 0 m refl
+  first_message =
+      let e : suc (handed a b log) - 1 ≡ handed a b log + 0 = omega arith in ap (λ n. slice_get (sent a b log) n) e ∙ first_remains.messages 0 m refl
 
   first_due : hand_due g log ≡ Some (Hand a b (suc (handed a b log)) m)
   first_due =
@@ -81,7 +85,8 @@ module _ (g : Input) (log : Log) (b : Site) (kept : Site → List Msg) (w : Wait
       → IsLawful g (after_acts b acts (Hand a b (suc (handed a b log)) m ∷ log))
   first_lawful acts due =
       let k = link_parts g.catalogue.tms g.catalogue.dms a b f.linked in
-      (hand_and_acts g a b (suc (handed a b log)) m acts log (listed g.catalogue.tms g.catalogue.dms b k.to) w.part w.no_mark w.no_site first_due due w.lawful).0
+      (hand_and_acts g a b (suc (handed a b log)) m acts log (listed g.catalogue.tms g.catalogue.dms b k.to) w.part w.no_mark w.no_site first_due due
+      w.lawful).0
 
   -- it is handed over, and its site does what is due
   pub hands_first : (acts : List Act) (less : Site → List Msg) → TakesAway kept less a rest

@@ -39,11 +39,21 @@ cut_range : (P : Site → Type 0) (m a k : ℕ) → a ≤ k → k < a + m → ((
 cut_range P zero a k l u h = absurd (omega arith)
 cut_range P (suc m) a k l u h =
     elim (here_or_later a k l) as (λ _. Cut (T (tm_no a) ∷ map (λ n. T (tm_no n)) (range_with_len (a + 1) m)) (T (tm_no k)) P) [
-      | inl p ↦ record { before = []; after = map (λ n. T (tm_no n)) (range_with_len (a + 1) m); parts = ap (λ z. T (tm_no z) ∷ map (λ n. T (tm_no n)) (range_with_len (a + 1) m)) p; lower = tt }
+      | inl p ↦ record {
+        before = [];
+        after = map (λ n. T (tm_no n)) (range_with_len (a + 1) m);
+        parts = ap (λ z. T (tm_no z) ∷ map (λ n. T (tm_no n)) (range_with_len (a + 1) m)) p;
+        lower = tt;
+      }
       | inr q ↦
           let c : Cut (map (λ n. T (tm_no n)) (range_with_len (a + 1) m)) (T (tm_no k)) P = cut_range P m (a + 1) k q (omega arith)
           (λ j x y. h j (omega arith) y) in
-          record { before = T (tm_no a) ∷ c.before; after = c.after; parts = ap (λ z. T (tm_no a) ∷ z) c.parts; lower = (h a (omega arith) (omega arith), c.lower) }
+          record {
+            before = T (tm_no a) ∷ c.before;
+            after = c.after;
+            parts = ap (λ z. T (tm_no a) ∷ z) c.parts;
+            lower = (h a (omega arith) (omega arith), c.lower);
+          }
     ]
 
 -- U and each T before the one with this number

@@ -30,7 +30,8 @@ ticked_none g log t n k =
     none_at_all (next_at g log) (next_at g more) (sites g.catalogue.tms g.catalogue.dms) (λ x k. none_more g log more x (λ part. part) (λ i.
     let j : next_in g x (base_of g more) (local_of g x log) ≡ None = none_any_base g x (base_of g log) (base_of g more) (local_of g x log) i in
     ticked_if g x (base_of g more) n (same_site x (T t)) (local_of g x log)
-    (λ q. ticked_here g x (T t) (base_of g more) n (local_of g x log) (same_is x (T t) q) j (none_by_tick (setting_of g (T t)) (base_of g more) (local_of g x log) n)) j) k)
+    (λ q. ticked_here g x (T t) (base_of g more) n (local_of g x log) (same_is x (T t) q) j
+    (none_by_tick (setting_of g (T t)) (base_of g more) (local_of g x log) n)) j) k)
     (all_none (next_at g log) (sites g.catalogue.tms g.catalogue.dms) k)
 
 -- the mark
@@ -71,7 +72,8 @@ pub part_noted : (x : Site) (log : Log) → takes_part x (Notes ∷ log) ≡ tak
 part_noted x log = refl
 
 -- an event that finds nothing to do
-pub rests_noted : (g : Input) (log : Log) (e : Event) → IsMarked g log e → IsNoTick e → BringsUpNone e log → due_by g e log ≡ Some Notes → AllHanded (Mark e ∷ log)
+pub rests_noted : (g : Input) (log : Log) (e : Event) → IsMarked g log e → IsNoTick e → BringsUpNone e log → due_by g e log ≡ Some Notes
+    → AllHanded (Mark e ∷ log)
     → Rests g (Notes ∷ Mark e ∷ log)
 rests_noted g log e k i part d h = grind (arith, mark_within, none_by_note, part_noted)
 

@@ -84,13 +84,17 @@ pub left_is : (g : Input) (n : ℕ) (log : Log) → IsLawful g log → IsLeft n 
 left_is g n [] h = record { all = omega arith; round_none = refl }
 left_is g n (Mark e ∷ log) h = mark_step g log n (marked n log) e (left g.events log) (mark_is_next g log (Mark e) refl h.0) (left_is g n log h.1)
 left_is g n (Round es ∷ log) h = round_step g log n (marked n log) es (left g.events log) (mark_is_next g log (Round es) refl h.0) (left_is g n log h.1)
-left_is g n (Redeclares t ∷ log) h = redeclare_step g log n (marked n log) t (left g.events log) (mark_is_next g log (Redeclares t) refl h.0) (left_is g n log h.1)
+left_is g n (Redeclares t ∷ log) h =
+    redeclare_step g log n (marked n log) t (left g.events log) (mark_is_next g log (Redeclares t) refl h.0) (left_is g n log h.1)
 left_is g n (_ ∷ log) h = left_is g n log h.1
 
 counts_mark : (n : ℕ) (log : Log) → was_marked n log ≡ true → 1 ≤ marked n log
 counts_mark n [] h = cc
 counts_mark n (Mark (Submit k) ∷ log) h =
-    elim (k.0 == n) as (λ b. (b || was_marked n log) ≡ true → 1 ≤ one_if b + marked n log) [ true ↦ λ p. omega arith | false ↦ λ p. let i = counts_mark n log p in omega arith ] h
+    elim (k.0 == n) as (λ b. (b || was_marked n log) ≡ true → 1 ≤ one_if b + marked n log) [
+      | true ↦ λ p. omega arith
+      | false ↦ λ p. let i = counts_mark n log p in omega arith
+    ] h
 counts_mark n (Mark _ ∷ log) h = let i = counts_mark n log h in omega arith
 counts_mark n (_ ∷ log) h = counts_mark n log h
 

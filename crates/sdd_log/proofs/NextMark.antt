@@ -45,6 +45,7 @@ pub mark_is_next : (g : Input) (log : Log) (e : Entry) → is_mark e ≡ true �
     → mark_of g log (left g.events log) ≡ Some e
 mark_is_next g log e m p =
     sym (next_mark_is g log) ∙ past (hand_due g log) (next_mark g log) e
-    (no_first (hand_on log) (all_links g) (λ l. no_hand log l (takes_part l.1 log) (next_number (handed l.0 l.1 log) (delivered (link_of l.0 l.1 log).there)))) m
+    (no_first (hand_on log) (all_links g)
+    (λ l. no_hand log l (takes_part l.1 log) (next_number (handed l.0 l.1 log) (delivered (link_of l.0 l.1 log).there)))) m
     (past (site_due g log) _ e (no_first (λ at. does_at at (next_at g log at)) (sites g.catalogue.tms g.catalogue.dms) (λ at. no_does at (next_at g log at))) m
     (past (mark_due g log) _ e (no_mark_due g log) m p))

@@ -56,7 +56,8 @@ from_all P [] h = tt
 from_all P (x ∷ xs) h = (All-head P x xs h, from_all P xs (All-tail P x xs h))
 
 each_link : (P : Site × Site → Type 0) (tms dms : ℕ) → ((l : Site × Site) → is_link tms dms l.0 l.1 ≡ true → P l) → AtEach P (links tms dms)
-each_link P tms dms h = each_weaker (λ l. is_link tms dms l.0 l.1 ≡ true) P (links tms dms) h (from_all (λ l. is_link tms dms l.0 l.1 ≡ true) (links tms dms) (links_exist tms dms))
+each_link P tms dms h =
+    each_weaker (λ l. is_link tms dms l.0 l.1 ≡ true) P (links tms dms) h (from_all (λ l. is_link tms dms l.0 l.1 ≡ true) (links tms dms) (links_exist tms dms))
 
 abbrev from_site : List Site → Site → List (Site × Site)
 from_site all a = filter_map (λ b. cond (are_linked a b) (Some (a, b)) None) all
@@ -128,7 +129,8 @@ module _ {M : Type 0} (tms dms : ℕ) (calls : List (Call M)) (e : round (links 
   no_flight : (a b : Site) → is_link tms dms a b ≡ true → is_empty (link a b calls).there.flight ≡ true
   no_flight a b l =
       flight_empty (link a b calls).there.flight (cond (resends_now (link a b calls)) (length (link a b calls).there.sent - (link a b calls).there.acked) 0)
-      (none_replicated (in_flight (link a b calls)) (Deliver a b 1) (of_link (λ l. replicate (in_flight (link l.0 l.1 calls)) (Deliver l.0 l.1 1) ≡ []) tms dms a b l no_flights))
+      (none_replicated (in_flight (link a b calls)) (Deliver a b 1)
+      (of_link (λ l. replicate (in_flight (link l.0 l.1 calls)) (Deliver l.0 l.1 1) ≡ []) tms dms a b l no_flights))
 
   quiet_link : (a b : Site) → is_link tms dms a b ≡ true → is_quiet_link (link a b calls) ≡ true
   quiet_link a b l =
@@ -137,9 +139,11 @@ module _ {M : Type 0} (tms dms : ℕ) (calls : List (Call M)) (e : round (links 
       (of_link (λ l. cond (resends_now (link l.0 l.1 calls)) (Some (Resend l.0 l.1)) None ≡ None) tms dms a b l no_resends) in
       let acked : nat_lt (link a b calls).there.acked (length (link a b calls).there.sent) ≡ false = first_false
       (nat_lt (link a b calls).there.acked (length (link a b calls).there.sent)) (is_empty (link a b calls).there.flight)
-      (is_empty (link a b calls).back.flight) here (subst (λ w. is_empty w.flight ≡ true) (back_is tms dms a b calls l) (no_flight b a (link_back tms dms a b l))) none in
+      (is_empty (link a b calls).back.flight) here
+      (subst (λ w. is_empty w.flight ≡ true) (back_is tms dms a b calls l) (no_flight b a (link_back tms dms a b l))) none in
       and_from (is_empty (link a b calls).there.flight) (nat_le (length (link a b calls).there.sent) (link a b calls).there.acked) here
-      (le-leb (length (link a b calls).there.sent) (link a b calls).there.acked (ltb-false (link a b calls).there.acked (length (link a b calls).there.sent) acked))
+      (le-leb (length (link a b calls).there.sent) (link a b calls).there.acked
+      (ltb-false (link a b calls).there.acked (length (link a b calls).there.sent) acked))
 
   pub no_events_quiet : quiet (links tms dms) calls ≡ true
   no_events_quiet = all_true (λ l. is_quiet_link (link l.0 l.1 calls)) (links tms dms)

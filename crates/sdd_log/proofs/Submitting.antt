@@ -13,7 +13,8 @@ settled_by_submit g to n log [] k = tt
 settled_by_submit g to n log (x ∷ xs) k =
     ((λ e. none_same g log (Submitted to n ∷ log) x (λ part. part) (other_local g x to n log e) k.0), settled_by_submit g to n log xs k.1)
 
-own_local : (g : Input) (at : Site) (n : ℕ) (txn : Txn) (log : Log) → txn_at g n ≡ Some txn → local_of g at (Submitted at n ∷ log) ≡ Submits n txn ∷ local_of g at log
+own_local : (g : Input) (at : Site) (n : ℕ) (txn : Txn) (log : Log) → txn_at g n ≡ Some txn
+    → local_of g at (Submitted at n ∷ log) ≡ Submits n txn ∷ local_of g at log
 own_local g at n txn log is = rw (same_here at, is) refl
 
 -- the site of a transaction that is submitted after the log
@@ -30,7 +31,8 @@ module _ (g : Input) (n : TxnNo) (log : Log) (k : IsMarked g log (Submit n)) whe
   pub submitted_within : IsWithin (submitted g n log)
   submitted_within = (refl, (mark_within log (Submit n) k.few, k.rests.within))
 
-  pub submitted_local : (txn : Txn) → txn_at g n.0 ≡ Some txn → local_of g (home_in g n log) (submitted g n log) ≡ Submits n.0 txn ∷ local_of g (home_in g n log) log
+  pub submitted_local : (txn : Txn) → txn_at g n.0 ≡ Some txn
+      → local_of g (home_in g n log) (submitted g n log) ≡ Submits n.0 txn ∷ local_of g (home_in g n log) log
   submitted_local txn is = own_local g (home_in g n log) n.0 txn (Mark (Submit n) ∷ log) is
 
   -- what the module does then is lawful
@@ -73,7 +75,8 @@ module _ (g : Input) (n : TxnNo) (log : Log) (k : IsMarked g log (Submit n)) whe
     no_mark = refl;
     no_site = nothing_due (next_at g (submitted g n log)) (home_in g n log) (sites g.catalogue.tms g.catalogue.dms)
         (settled_by_submit g (home_in g n log) n.0 (Mark (Submit n) ∷ log) (sites g.catalogue.tms g.catalogue.dms)
-        (all_none (next_at g (Mark (Submit n) ∷ log)) (sites g.catalogue.tms g.catalogue.dms) (none_by_mark g log (Submit n) tt (λ x part. part) k.rests.no_site)))
+        (all_none (next_at g (Mark (Submit n) ∷ log)) (sites g.catalogue.tms g.catalogue.dms)
+        (none_by_mark g log (Submit n) tt (λ x part. part) k.rests.no_site)))
         (idle_down g (submitted g n log) (home_in g n log) down);
     handed_all = λ a b part. k.rests.handed_all a b part;
   }

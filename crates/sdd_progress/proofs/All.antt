@@ -142,7 +142,7 @@ pub use Rattle.sdd_progress.specs.Going.{AllAskParts, AllHaveParts, CountsRead, 
 pub use Rattle.sdd_progress.specs.Heads.{IsStuck}
 pub use Rattle.sdd_progress.specs.Outage.{CostsNoMore, IsSubmittedIn, NeedsAreUp, UndeclaredAreDone, table_in_force}
 pub use Rattle.sdd_progress.specs.Premises.{HasOneTable, HasSoundLists, IsIdleAtRedeclares, IsSoundList, IsUpAtRedeclares}
-pub use Rattle.sdd_progress.specs.Quiet.{IsQuiet, IsStill, TmsAreUp, at_home, at_module}
+pub use Rattle.sdd_progress.specs.Quiet.{IsQuiet, IsStill, at_home, at_module}
 pub use Rattle.sdd_progress.specs.Rejects.{KeepsRejects}
 pub use Rattle.sdd_progress.specs.Settled.{IsAtEnd, IsSettled}
 pub use Rattle.sdd_progress.specs.Timely.{AreTimely}

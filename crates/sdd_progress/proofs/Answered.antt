@@ -41,7 +41,8 @@ Answers c txn attempt act = (dm : DmNo) × (sends : List (Site × Msg)) × (act 
 act_waits : (s : Setting) (l : site.Log) (c : ℕ) (ts : Ts) (of : ClassNo) (txn : TxnNo) (attempt : ℕ) (conds : List Cond) (uses : List Use) (act : Act)
     → HeadWaits l c (Read ts of txn attempt conds uses) → IsReadStep s l act
     → HeadWaits (Did act ∷ l) c (Read ts of txn attempt conds uses) ⊎ Answers c txn attempt act
-act_waits s l c ts of txn attempt conds uses act w i = grind (arith, read_step_way, HeadWaits, Answers, passing, waits_on, not_own, same_or_not, waited_answer, waits_other)
+act_waits s l c ts of txn attempt conds uses act w i =
+    grind (arith, read_step_way, HeadWaits, Answers, passing, waits_on, not_own, same_or_not, waited_answer, waits_other)
 
 pub answered_on : (d : DmNo) (c : ℕ) (txn : TxnNo) (attempt : ℕ) (e : Entry) (entries : Log) → IsAnsweredIn d c txn attempt entries
     → IsAnsweredIn d c txn attempt (e ∷ entries)
@@ -52,7 +53,8 @@ pub answered_now : (d : DmNo) (c : ℕ) (txn : TxnNo) (attempt : ℕ) (e : Entry
 answered_now d c txn attempt e act entries is a =
     record { later = []; before = entries; dm = a.0; sends = a.1; is = ap (λ x. x ∷ entries) (is ∙ ap (λ x. Does (D d) x) a.2) }
 
-waits_entry : (g : Input) (d : DmNo) (c : ℕ) (e : Entry) (entries log : Log) (ts : Ts) (of : ClassNo) (txn : TxnNo) (attempt : ℕ) (conds : List Cond) (uses : List Use)
+waits_entry : (g : Input) (d : DmNo) (c : ℕ) (e : Entry) (entries log : Log) (ts : Ts) (of : ClassNo) (txn : TxnNo) (attempt : ℕ) (conds : List Cond)
+    (uses : List Use)
     → HeadWaits (at_module g d (entries ++ log)) c (Read ts of txn attempt conds uses) → IsEntryAt g d (entries ++ log) e
     → HeadWaits (at_module g d (e ∷ (entries ++ log))) c (Read ts of txn attempt conds uses) ⊎ IsAnsweredIn d c txn attempt (e ∷ entries)
 waits_entry g d c e entries log ts of txn attempt conds uses w (aside f) = inl ((f c).waits_same ∙ w.0, ap (λ (x : Pipe). head x) (f c).pipe_same ∙ w.1)
@@ -64,7 +66,8 @@ waits_entry g d c e entries log ts of txn attempt conds uses w (acting act is s 
       | inr a ↦ inr (answered_now d c txn attempt e act entries is a)
     ]
 
-pub waits_or_answered : (g : Input) (d : DmNo) (c : ℕ) (later log : Log) (ts : Ts) (of : ClassNo) (txn : TxnNo) (attempt : ℕ) (conds : List Cond) (uses : List Use)
+pub waits_or_answered : (g : Input) (d : DmNo) (c : ℕ) (later log : Log) (ts : Ts) (of : ClassNo) (txn : TxnNo) (attempt : ℕ) (conds : List Cond)
+    (uses : List Use)
     → IsPermitted g (later ++ log) → HeadWaits (at_module g d log) c (Read ts of txn attempt conds uses)
     → HeadWaits (at_module g d (later ++ log)) c (Read ts of txn attempt conds uses) ⊎ IsAnsweredIn d c txn attempt later
 waits_or_answered g d c [] log ts of txn attempt conds uses h w = inl w

@@ -72,7 +72,8 @@ module _ (g : Input) (log : Log) (w : Known g log) where
       → x.place < a.place
   committed_first x y a o s e = let q = earlier x y a o s e in let l = q.first in let m = q.second in omega (arith, l, m)
 
-  pub applied_first : (x y : Committed) (a : Attempt) (d : ℕ) → IsOfEarlierEra (eras_of g log) (history log) x y → IsAttempt (history log) a → a.txn ≡ y.start.txn
+  pub applied_first : (x y : Committed) (a : Attempt) (d : ℕ) → IsOfEarlierEra (eras_of g log) (history log) x y → IsAttempt (history log) a
+      → a.txn ≡ y.start.txn
       → GoesTo g.catalogue x d → AppliedBefore (history log) x.start.txn d a.place
   applied_first x y a d o s e goes =
       let q = earlier x y a o s e in

@@ -63,7 +63,8 @@ module _ (g : Input) (log : Log) (w : Known g log) where
       let c = r.all n k s in (grind (arith, recorded_within, history, txn_no, recorded_more))
 
   -- so a transaction that was submitted before it is committed before it
-  pub committed_by : (mid : Log) (r : IsRest g log mid) (n k : ℕ) → IsSubmitted (history mid) n k → (x : Committed) → IsCommitted (history log) x → x.start.txn ≡ n
+  pub committed_by : (mid : Log) (r : IsRest g log mid) (n k : ℕ) → IsSubmitted (history mid) n k → (x : Committed) → IsCommitted (history log) x
+      → x.start.txn ≡ n
       → x.place < length (history mid)
   committed_by mid r n k s x c e =
       let there = commit_there mid r n k s in

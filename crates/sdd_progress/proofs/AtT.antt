@@ -44,7 +44,8 @@ module _ (s : Setting) (bases : Bases) (log : Log) (fair : Each (IsFair s) log) 
   more_holds a b x y e = ltb-true x y (and_right b (nat_lt x y) (and_right a (b && nat_lt x y) e))
 
   pub t_falls : (act : Act) → IsDue s.catalogue bases (view_of s log) act → t_work s (Did act ∷ log) < t_work s log
-  t_falls act (by_exchange n k p e) = grind (arith, in_mapped, over_falls, t_work, same_Some, send_falls, asks_next, total_less, class_work, send_up, filter_short, holds)
+  t_falls act (by_exchange n k p e) =
+      grind (arith, in_mapped, over_falls, t_work, same_Some, send_falls, asks_next, total_less, class_work, send_up, filter_short, holds)
   t_falls act (by_ask n m k q p at e) = grind (arith, in_mapped, t_work, same_Some, total_up, class_work, send_up, same_number, filter_shorter, holds)
   t_falls act (by_hold e) = held_falls _ _ act (λ b. more_holds _ _ _ _ b) e
   t_falls act (by_start n k p e) = grind (arith, in_mapped, t_work, same_Some, class_work, start_falls, total_less, by_class, start_other)

@@ -101,9 +101,11 @@ pub each_counted : (g : Input) (log : Log) (k t : ℕ) (a : Attempt) → IsPermi
 each_counted g log k t a h i ts each = grind (arith, counted_off, u_fair, u_table, all_current, dones_few, (all_done g log a each))
 
 -- so has it where the WRITEs are applied
-pub dones_counted : (g : Input) (log : Log) (k t : ℕ) (later before : Log) (bases : Bases) (a : Attempt) → IsStill g log → IsSoundCatalogue g.catalogue → AreServedApplied g log
+pub dones_counted : (g : Input) (log : Log) (k t : ℕ) (later before : Log) (bases : Bases) (a : Attempt) → IsStill g log
+    → IsSoundCatalogue g.catalogue → AreServedApplied g log
     → slice_get (numbers_to g.catalogue.tms) k ≡ Some t → log ≡ later ++ Does U (commit_act g.catalogue bases 0 a) ∷ before
-    → active (setting_of g U) 0 (local_of g U before) ≡ Some a → (last_served (setting_of g U) (local_of g U log)).ts ≡ a.ts → (last_served (setting_of g U) (local_of g U log)).dones ≡ g.catalogue.dms
+    → active (setting_of g U) 0 (local_of g U before) ≡ Some a → (last_served (setting_of g U) (local_of g U log)).ts ≡ a.ts
+    → (last_served (setting_of g U) (local_of g U log)).dones ≡ g.catalogue.dms
 dones_counted g log k t later before bases a h sound applied i is active_is ts =
     each_counted g log k t a h.permitted i ts (λ d l m.
     (let in_range : IsModule g.catalogue d = (l, omega (arith, m)) in

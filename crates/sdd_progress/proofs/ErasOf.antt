@@ -77,7 +77,8 @@ one_begun n m y l = rw (le-leb n m l) refl
 sum_one : (a b c d : ℕ) → a ≡ b + c → b ≡ d → c ≡ 1 → a ≡ suc d
 sum_one a b c d e f g = omega (arith, e, f, g)
 
-begun_more : (eras : Eras) (y : ℕ × Catalogue) (event : ℕ) → eras_begun (eras ++ y ∷ []) event ≡ eras_begun eras event + length (cond (nat_le y.0 event) (y ∷ []) [])
+begun_more : (eras : Eras) (y : ℕ × Catalogue) (event : ℕ)
+    → eras_begun (eras ++ y ∷ []) event ≡ eras_begun eras event + length (cond (nat_le y.0 event) (y ∷ []) [])
 begun_more [] y event = elim (nat_le y.0 event) as (λ b. length (cond b (y ∷ []) []) ≡ 0 + length (cond b (y ∷ []) [])) [ true ↦ refl | false ↦ refl ]
 begun_more (x ∷ eras) y event = grind (arith, nat_le, (begun_more eras y event))
 
@@ -103,7 +104,8 @@ begun_later g (Redeclares t ∷ later) log = grind (arith, begun_more, true_or_f
 begun_later g (_ ∷ later) log = begun_later g later log
 
 pub begun_is : (g : Input) (log later before : Log) → log ≡ later ++ before → eras_begun (eras_of g log) (marks before) ≡ suc (redeclares before)
-begun_is g log later before is = ap (λ l. eras_begun (eras_of g l) (marks before)) is ∙ begun_later g later before ∙ begun_all g before (marks before) (omega arith)
+begun_is g log later before is =
+    ap (λ l. eras_begun (eras_of g l) (marks before)) is ∙ begun_later g later before ∙ begun_all g before (marks before) (omega arith)
 
 pub index_or : {A : Type 0} (xs : List A) (k : ℕ) (d m : A) → slice_get xs k ≡ Some m → slice_index_or xs k d ≡ m
 index_or [] k d m e = cc

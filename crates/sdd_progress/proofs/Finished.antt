@@ -1,11 +1,11 @@
 -- Where nothing goes on and all is idle, no transaction module is on hold and no transaction is in a queue.
-use Rattle.sdd_progress.proofs.All.{Attempt, Bases, Bool, Catalogue, Does, Input, IsClass, IsFinished, IsIdle, IsPermitted, IsQuiet, IsSoundCatalogue, IsStill, Log, None, Option, Queued, Some, T, TmsAreUp, U, [], active, ap, arith, at_home, at_place, both, chain, chain_at, commit_act, counts, dec_le, eq-eqb, eqb-true, false, from_u, handed_helds, handed_holds, hands_from, head_of, holds, home, if◌then◌else◌, in_filtered, in_mapped, in_range, inl, inr, is_a_held, is_a_hold, is_a_release, is_link, is_none, last_served, le-ltb, list_all, local_of, lt-ltb, none_not_some, not, not_both, not_zero, numbers_to, place_of_act, positive, puts_to, queue, refl, same_or_not, setting_of, slice_get, sound_whole, subst, suc, sym, t_helds, t_table, takes_part, tally, tm_no, true, u_table, zero_head, ℕ, ◌-◌, ◌<◌, ◌++◌, ◌==◌, ◌∙◌, ◌∷◌, ◌≡◌, ◌≤◌}
+use Rattle.sdd_progress.proofs.All.{Attempt, Bases, Bool, Catalogue, Does, Input, IsClass, IsFinished, IsIdle, IsPermitted, IsQuiet, IsSoundCatalogue, IsStill, Log, None, Option, Queued, Some, T, U, [], active, ap, arith, at_home, at_place, both, chain, chain_at, commit_act, counts, dec_le, eq-eqb, eqb-true, false, from_u, handed_helds, handed_holds, hands_from, head_of, holds, home, if◌then◌else◌, in_filtered, in_mapped, in_range, inl, inr, is_a_held, is_a_hold, is_a_release, is_link, is_none, last_served, le-ltb, list_all, local_of, lt-ltb, none_not_some, not, not_both, not_zero, numbers_to, place_of_act, positive, puts_to, queue, refl, same_or_not, setting_of, slice_get, sound_whole, subst, suc, sym, t_helds, t_table, takes_part, tally, tm_no, true, u_table, zero_head, ℕ, ◌-◌, ◌<◌, ◌++◌, ◌==◌, ◌∙◌, ◌∷◌, ◌≡◌, ◌≤◌}
 use Rattle.sdd_progress.proofs.Dones.{AreServedApplied, dones_counted, idle_applied}
 use Rattle.sdd_progress.proofs.Handed.{all_handed}
 use Rattle.sdd_progress.proofs.Holds.{holds_needed, last_commit}
 use Rattle.sdd_progress.proofs.Lists.{all_true, if_none, no_head}
 use Rattle.sdd_progress.proofs.NoRejects.{all_served}
-use Rattle.sdd_progress.proofs.Still.{home_part, quiet_tms, run_at, runs_place, still_of, t_part, t_site, t_still, u_still}
+use Rattle.sdd_progress.proofs.Still.{TmsAreUp, home_part, quiet_tms, run_at, runs_place, still_of, t_part, t_site, t_still, u_still}
 use Rattle.sdd_obligations.specs.site_module.SiteLog as site
 use Rattle.sdd_obligations.specs.tm.Due as tm
 use Rattle.sdd_obligations.specs.tm.Views as tm_views

@@ -25,7 +25,8 @@ listed g k = listed_in g g.eras k (record { catalogue = g.catalogue; table = [] 
 
 no_diagonal_from : (g : Input) (i : ℕ) (x : Era) (p : Protocol) (j : ℕ) (f : FragNo) → IsFreeClass g i → IsListed g x → IsDiagonalIn x.table p i j f → p ≡ P1
 no_diagonal_from g i x p j f free (given k h) d = none_from x.catalogue x.table p i j f (free.tabled k x h).table (free.free k x h) d
-no_diagonal_from g i x p j f free (no_table e) d = (let h : slice_get [] d.place ≡ Some d.entry = subst (λ t. slice_get t d.place ≡ Some d.entry) e d.there in cc)
+no_diagonal_from g i x p j f free (no_table e) d =
+    (let h : slice_get [] d.place ≡ Some d.entry = subst (λ t. slice_get t d.place ≡ Some d.entry) e d.there in cc)
 
 no_diagonal_to : (g : Input) (i : ℕ) (x : Era) (p : Protocol) (c : ℕ) (f : FragNo) → IsFreeClass g i → IsListed g x → IsDiagonalIn x.table p c i f → p ≡ P1
 no_diagonal_to g i x p c f free (given k h) d = none_to x.catalogue x.table p c i f (free.tabled k x h).table (free.free k x h) d
@@ -55,14 +56,16 @@ pub declared : (g : Input) (i : ℕ) → IsFreeClass g i → i ≢ 0
 declared g i free z = let l = free.class.from in omega arith
 
 -- a READ of the class
-pub unconditional : (g : Input) (log : Log) (i : ℕ) (d : DmNo) (k : ℕ) (ts : Ts) (of : ClassNo) (txn : TxnNo) (attempt : ℕ) (conds : List Cond) (uses : List Use)
+pub unconditional : (g : Input) (log : Log) (i : ℕ) (d : DmNo) (k : ℕ) (ts : Ts) (of : ClassNo) (txn : TxnNo) (attempt : ℕ) (conds : List Cond)
+    (uses : List Use)
     → IsPermitted g log → IsFreeClass g i → slice_get (all_of (pipe_at g i d log)) k ≡ Some (Read ts of txn attempt conds uses) → conds ≡ []
 unconditional g log i d k ts of txn attempt conds uses h free e =
     let a = conditions_of g log i d k ts of txn attempt conds uses h (declared g i free) e in
     no_members conds (λ n q m. none_by g i (nth_era g _) ts.0 _ q free (listed g _) (a.from_table n q m))
 
 -- a READ of any declared class
-pub names_none : (g : Input) (log : Log) (i c : ℕ) (d : DmNo) (k : ℕ) (ts : Ts) (of : ClassNo) (txn : TxnNo) (attempt : ℕ) (conds : List Cond) (uses : List Use) (n : ℕ) (q : Cond)
+pub names_none : (g : Input) (log : Log) (i c : ℕ) (d : DmNo) (k : ℕ) (ts : Ts) (of : ClassNo) (txn : TxnNo) (attempt : ℕ) (conds : List Cond)
+    (uses : List Use) (n : ℕ) (q : Cond)
     → IsPermitted g log → IsFreeClass g i → c ≢ 0 → slice_get (all_of (pipe_at g c d log)) k ≡ Some (Read ts of txn attempt conds uses)
     → slice_get conds n ≡ Some q → q.class.0 ≢ i
 names_none g log i c d k ts of txn attempt conds uses n q h free nz e m p =

@@ -53,13 +53,15 @@ conds_in _ = []
 abbrev frags_asked : Setting → Queued → List ℕ
 frags_asked s q = ascending (fragments_in (uses_of s.catalogue q.text))
 
-read_conds : (s : Setting) (c : ℕ) (log : site.Log) (q : Queued) (d : ℕ) (ts : Ts) (of : ClassNo) (txn : TxnNo) (attempt : ℕ) (conds : List Cond) (uses : List Use)
+read_conds : (s : Setting) (c : ℕ) (log : site.Log) (q : Queued) (d : ℕ) (ts : Ts) (of : ClassNo) (txn : TxnNo) (attempt : ℕ) (conds : List Cond)
+    (uses : List Use)
     → start_read s c log q d ≡ Read ts of txn attempt conds uses
     → conditions_at s.catalogue (current_era s log).table c (frags_asked s q) (next_stamp s log) (bound s log) d ≡ conds
 unfolding conds_in
 read_conds s c log q d ts of txn attempt conds uses e = ap conds_in e
 
-start_conds : (s : Setting) (b : Site) (log : site.Log) (c : ℕ) (q : Queued) (k : ℕ) (ts : Ts) (of : ClassNo) (txn : TxnNo) (attempt : ℕ) (conds : List Cond) (uses : List Use)
+start_conds : (s : Setting) (b : Site) (log : site.Log) (c : ℕ) (q : Queued) (k : ℕ) (ts : Ts) (of : ClassNo) (txn : TxnNo) (attempt : ℕ)
+    (conds : List Cond) (uses : List Use)
     → slice_get (to_site b (sends_of_act (start_at s c log q))) k ≡ Some (Read ts of txn attempt conds uses)
     → (d : ℕ) × (conditions_at s.catalogue (current_era s log).table c (frags_asked s q) (next_stamp s log) (bound s log) d ≡ conds)
 start_conds s b log c q k ts of txn attempt conds uses e = grind (arith, start_puts, in_none, read_conds, in_one)
@@ -88,7 +90,8 @@ conditions_by g log c d ts of txn attempt conds uses n p =
     }
 
 -- wherever it stands in a pipe
-pub conditions_of : (g : Input) (log : Log) (c : ℕ) (d : DmNo) (k : ℕ) (ts : Ts) (of : ClassNo) (txn : TxnNo) (attempt : ℕ) (conds : List Cond) (uses : List Use)
+pub conditions_of : (g : Input) (log : Log) (c : ℕ) (d : DmNo) (k : ℕ) (ts : Ts) (of : ClassNo) (txn : TxnNo) (attempt : ℕ) (conds : List Cond)
+    (uses : List Use)
     → IsPermitted g log → c ≢ 0 → slice_get (all_of (pipe_at g c d log)) k ≡ Some (Read ts of txn attempt conds uses) → AreConditionsOf g log c ts.0 conds
 conditions_of g log c d k ts of txn attempt conds uses h n e =
     let m : Msg = Read ts of txn attempt conds uses in

@@ -65,5 +65,6 @@ drop_past (suc n) [] l = refl
 drop_past zero (x ∷ xs) l = absurd (omega (arith, l))
 drop_past (suc n) (x ∷ xs) l = drop_past n xs (omega (arith, l))
 
-pub none_in_flight : (g : Input) (log : Log) (a b : Site) → IsStill g log → takes_part b log ≡ true → is_link g.catalogue.tms g.catalogue.dms a b ≡ true → flight g a b log ≡ []
+pub none_in_flight : (g : Input) (log : Log) (a b : Site) → IsStill g log → takes_part b log ≡ true
+    → is_link g.catalogue.tms g.catalogue.dms a b ≡ true → flight g a b log ≡ []
 none_in_flight g log a b h part e = drop_past (handed a b log) (puts_to b (local_of g a log)) (none_left g log a b h part e)

@@ -41,7 +41,8 @@ Rejects v c txn attempt conds act =
     (dm : DmNo) × (by : ClassNo) × (write : Ts) × (sends : List (Site × Msg)) × (q : Cond) × (act ≡ Records c (Rejected txn attempt dm by write) sends)
     × (spoiler v conds ≡ Some q) × (by ≡ q.class)
 
-judged_by : (v : View) (c : ℕ) (w : Bool) (ts : Ts) (of : ClassNo) (txn : TxnNo) (attempt : ℕ) (conds : List Cond) (uses : List Use) (r : Rec) (sends : List (Site × Msg))
+judged_by : (v : View) (c : ℕ) (w : Bool) (ts : Ts) (of : ClassNo) (txn : TxnNo) (attempt : ℕ) (conds : List Cond) (uses : List Use) (r : Rec)
+    (sends : List (Site × Msg))
     → May v c w (Read ts of txn attempt conds uses) r → Answers c txn attempt (Records c r sends) ⊎ Rejects v c txn attempt conds (Records c r sends)
 judged_by v c w ts of txn attempt conds uses (Answer n a dm) sends m =
     inl (dm, sends, ap (λ k. Records c (Answer (txn_no k) a dm) sends) m.0 ∙ ap (λ k. Records c (Answer txn k dm) sends) m.1)
@@ -120,7 +121,8 @@ rejected_on g log d c txn attempt conds e entries i =
       spoilt = i.spoilt;
     }
 
-judged_entry : (g : Input) (d : DmNo) (c : ℕ) (e : Entry) (entries log : Log) (ts : Ts) (of : ClassNo) (txn : TxnNo) (attempt : ℕ) (conds : List Cond) (uses : List Use)
+judged_entry : (g : Input) (d : DmNo) (c : ℕ) (e : Entry) (entries log : Log) (ts : Ts) (of : ClassNo) (txn : TxnNo) (attempt : ℕ) (conds : List Cond)
+    (uses : List Use)
     → IsPermitted g (entries ++ log) → spoiler (view_of (setting_of g (D d)) (at_module g d log)) conds ≡ None
     → list_all (is_met (view_of (setting_of g (D d)) (at_module g d (entries ++ log)))) conds ≡ true
     → HeadIs (at_module g d (entries ++ log)) c (Read ts of txn attempt conds uses) → IsEntryAt g d (entries ++ log) e
@@ -149,7 +151,8 @@ stays_or_done g d c (e ∷ later) log ts of txn attempt conds uses h small clean
       | inr x ↦ inr (grind (arith, answered_on, rejected_on))
     ]
 
-pub answered_or_rejected : (g : Input) (d : DmNo) (c : ℕ) (later log : Log) (ts : Ts) (of : ClassNo) (txn : TxnNo) (attempt : ℕ) (conds : List Cond) (uses : List Use)
+pub answered_or_rejected : (g : Input) (d : DmNo) (c : ℕ) (later log : Log) (ts : Ts) (of : ClassNo) (txn : TxnNo) (attempt : ℕ) (conds : List Cond)
+    (uses : List Use)
     → IsPermitted g (later ++ log) → IsLawful g (later ++ log) → HasSmallHomes g → IsClassHere (setting_of g (D d)) c → 1 ≤ d.0 → d.0 ≤ g.catalogue.dms
     → waits c (at_module g d log) ≡ false → head (pipe c (at_module g d log)) ≡ Some (Read ts of txn attempt conds uses)
     → list_all (is_met (view_of (setting_of g (D d)) (at_module g d log))) conds ≡ true

@@ -132,7 +132,8 @@ cond_along g log c ts conds from k q since e = grind (arith, along)
 cond_waits : (g : Input) (log : Log) (c ts : ℕ) (conds : List Cond) (from : AreConditionsOf g log c ts conds) (k : ℕ) (q : Cond)
     → redeclares from.before ≡ redeclares log → slice_get conds k ≡ Some q → waits_by (table_in_force g log) c q.class.0 ≡ true
 cond_waits g log c ts conds from k q since e =
-    subst (λ n. waits_by (nth_era g n).table c q.class.0 ≡ true) since (condition_waits (nth_era g (redeclares from.before)).table c ts _ q (from.from_table k q e))
+    subst (λ n. waits_by (nth_era g n).table c q.class.0 ≡ true) since
+    (condition_waits (nth_era g (redeclares from.before)).table c ts _ q (from.from_table k q e))
 
 -- a WRITE's time is that of a Start
 
@@ -298,7 +299,8 @@ none_under_way g log h one marks c z class up =
 -- waits
 
 pub undeclared_needs : (g : Input) (log : Log) (h : IsStill g log) (one : IsSoundList g (redeclares log)) (marks : IsIdleAtRedeclares g log)
-    (ts : ℕ) (conds : List Cond) (r : IsReader g log 0 ts conds) → is_down (D (dm_no r.d)) log ≡ false → (u : IsUnmet g log r.d conds) → ¬ NeedsAreUp g log (passing_task u.cond.class.0)
+    (ts : ℕ) (conds : List Cond) (r : IsReader g log 0 ts conds) → is_down (D (dm_no r.d)) log ≡ false → (u : IsUnmet g log r.d conds)
+    → ¬ NeedsAreUp g log (passing_task u.cond.class.0)
 undeclared_needs g log h one marks ts conds r up u ups =
     let x : Cond = u.cond in
     let closed = passings_closed g log one.fits.sound h.permitted in

@@ -20,7 +20,8 @@ answered g d c later log ts of txn attempt conds uses h l lo hi w e met =
     ready.answered g d c later log ts of txn attempt conds uses (permitted_to g (later ++ log) h) h.lawful (small_homes g h.sound) (omega arith) lo hi w e met
     (none_due g (later ++ log) h.over)
 
-pub answered_or_rejected : (g : Input) (d : DmNo) (c : ℕ) (later log : Log) (ts : Ts) (of : ClassNo) (txn : TxnNo) (attempt : ℕ) (conds : List Cond) (uses : List Use)
+pub answered_or_rejected : (g : Input) (d : DmNo) (c : ℕ) (later log : Log) (ts : Ts) (of : ClassNo) (txn : TxnNo) (attempt : ℕ) (conds : List Cond)
+    (uses : List Use)
     → EndsAnEvent g (later ++ log) → c ≤ length g.catalogue.classes → 1 ≤ d.0 → d.0 ≤ g.catalogue.dms
     → waits c (local_of g (D d) log) ≡ false → head (pipe_at g c d log) ≡ Some (Read ts of txn attempt conds uses)
     → list_all (is_met (view_of (setting_of g (D d)) (local_of g (D d) log))) conds ≡ true

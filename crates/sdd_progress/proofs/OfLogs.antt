@@ -4,7 +4,8 @@ use Rattle.sdd_progress.proofs.AttemptsSquare.{attempts_square}
 use Rattle.sdd_progress.proofs.FewRejected.{are_few_rejected}
 use Rattle.sdd_progress.proofs.Rejects.{keeps_rejects}
 
-pub few_rejected : (g : Input) (log : Log) (eras : Eras) → IsSoundCatalogue g.catalogue → IsPermitted g log → AreErasOf g log eras → AreFewRejected (history log)
+pub few_rejected : (g : Input) (log : Log) (eras : Eras) → IsSoundCatalogue g.catalogue → IsPermitted g log → AreErasOf g log eras
+    → AreFewRejected (history log)
 few_rejected g log eras sound h are =
     are_few_rejected g.catalogue eras g.txns (history log) (keeps_starts g log eras sound h are) (keeps_rejections g log eras sound h are)
     (keeps_rejects g log eras sound h are)

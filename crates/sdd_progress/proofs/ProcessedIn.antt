@@ -74,8 +74,10 @@ pub handed_last : (g : Input) (d : DmNo) (c : ℕ) (from : Site) (n : ℕ) (m : 
 handed_last g d c from n m log e =
     let l : site.Log = at_module g d log in
     let s : at_module g d (Hand from (D d) n m ∷ log) ≡ Handed from m ∷ l = rw (site_self (D d)) refl in
-    let p = put_last (goes_through c m) (pipe c l) m e in
-    (ap (λ y. slice_get (all_of (pipe c y)) (length (all_of (pipe c l)))) s ∙ p.0, subst (λ y. length (pipe c y).processed ≤ length (all_of (pipe c l))) (sym s) p.1)
+    let p = put_last (goes_through c m) (pipe c l) m e in (
+      ap (λ y. slice_get (all_of (pipe c y)) (length (all_of (pipe c l)))) s ∙ p.0,
+      subst (λ y. length (pipe c y).processed ≤ length (all_of (pipe c l))) (sym s) p.1,
+    )
 
 -- where a pipe has no head, all that came to it is processed
 

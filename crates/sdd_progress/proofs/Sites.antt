@@ -71,7 +71,8 @@ module _ (log : Log) (a b : Site) (n : ℕ) (m : Msg) (next : n ≡ suc (handed 
   none_more l = grind (arith, true_or_false, hands_on, same_link, same_here)
 
   pub hand_falls : (g : Input) (k : ℕ) → slice_get (all_links g) k ≡ Some (a, b) → hands_left g (Hand a b n m ∷ log) < hands_left g log
-  hand_falls g k at = total_less (hands_on (Hand a b n m ∷ log)) (hands_on log) (all_links g) k (a, b) at none_more (rw (same_here a, same_here b) (omega arith))
+  hand_falls g k at =
+      total_less (hands_on (Hand a b n m ∷ log)) (hands_on log) (all_links g) k (a, b) at none_more (rw (same_here a, same_here b) (omega arith))
 
 -- what is handed over on a link is the message after those that are handed
 

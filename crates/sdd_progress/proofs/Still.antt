@@ -1,5 +1,5 @@
 -- Where nothing goes on, nothing is due at any site.
-use Rattle.sdd_progress.proofs.All.{Catalogue, D, Input, IsClass, IsModule, IsQuiet, IsSoundCatalogue, IsStill, Log, None, Site, Some, T, TmsAreUp, U, active, ap, arith, at_home, at_map, at_module, at_place, attempt_due, base_of, class_at, dm_no, does_none, false, first_some, home, inl, inr, is_down, is_link, is_site, le-leb, length, local_of, next_at, next_in, none_in, not, numbers_to, or_none, positive, refl, same_number, same_or_not, served, setting_of, site_there, slice_get, subst, sym, takes_part, tm_no, true, ℕ, ◌-◌, ◌==◌, ◌≡◌, ◌≤◌}
+use Rattle.sdd_progress.proofs.All.{Catalogue, D, Input, IsClass, IsModule, IsModuleOf, IsQuiet, IsSoundCatalogue, IsStill, Log, None, Site, Some, T, U, active, ap, arith, at_home, at_map, at_module, at_place, attempt_due, base_of, class_at, dm_no, does_none, false, first_some, home, inl, inr, is_down, is_link, is_site, le-leb, length, local_of, next_at, next_in, none_in, not, numbers_to, or_none, positive, refl, same_number, same_or_not, served, setting_of, site_there, slice_get, subst, sym, takes_part, tm_no, true, ℕ, ◌-◌, ◌==◌, ◌≡◌, ◌≤◌}
 use Rattle.sdd_progress.proofs.Lists.{kept_there, none_at}
 use Rattle.sdd_obligations.specs.dm.Due as dm
 use Rattle.sdd_obligations.specs.dm.Views as dm_views
@@ -32,6 +32,10 @@ t_site cat t l m = (rw (le-leb 1 t l, le-leb t cat.tms m) refl)
 
 pub module_up : (g : Input) (log : Log) (d : ℕ) → IsQuiet g log → IsModule g.catalogue d → is_down (D (dm_no d)) log ≡ false
 module_up g log d h m = h.up (D (dm_no d)) (d_site g.catalogue d m)
+
+-- no transaction module is down
+abbrev pub TmsAreUp : Input → Log → Type 0
+TmsAreUp g log = (t : ℕ) → IsModuleOf g (T (tm_no t)) → is_down (T (tm_no t)) log ≡ false
 
 pub quiet_tms : (g : Input) (log : Log) → IsQuiet g log → TmsAreUp g log
 quiet_tms g log h t m = h.up (T (tm_no t)) m

@@ -21,7 +21,8 @@ asked_not : {A : Type 0} (h : Home) (k : ClassView) (o : Option Open) (a : Act) 
 asked_not h k None a e w = cc
 asked_not h k (Some o) a e w = open_not h k o o.msg a e w
 
-judged_wait : (s : Setting) (log : Log) (c : ℕ) (ts : Ts) (of : ClassNo) (txn : TxnNo) (attempt : ℕ) (conds : List Cond) (uses : List Use) (ds : List Cond) (by : Option Cond) (a : Act)
+judged_wait : (s : Setting) (log : Log) (c : ℕ) (ts : Ts) (of : ClassNo) (txn : TxnNo) (attempt : ℕ) (conds : List Cond) (uses : List Use)
+    (ds : List Cond) (by : Option Cond) (a : Act)
     → IsClassHere s c → waits c log ≡ false → head (pipe c log) ≡ Some (Read ts of txn attempt conds uses)
     → lacking (view_of s log) conds ≡ ds → spoiler (view_of s log) conds ≡ by
     → Some (act_by (home_of s) (view_of s log) c (Read ts of txn attempt conds uses) (judged (view_of s log) ds by)) ≡ Some a
@@ -34,7 +35,8 @@ write_not : {A : Type 0} (h : Home) (v : View) (c : ℕ) (ts : Ts) (of : ClassNo
 unfolding records_wait
 write_not h v c ts of txn changes held a e w = grind (arith, not_a_wait)
 
-waited_not : {A : Type 0} (h : Home) (v : View) (c : ℕ) (ts : Ts) (of : ClassNo) (txn : TxnNo) (attempt : ℕ) (conds : List Cond) (uses : List Use) (met : Bool) (a : Act)
+waited_not : {A : Type 0} (h : Home) (v : View) (c : ℕ) (ts : Ts) (of : ClassNo) (txn : TxnNo) (attempt : ℕ) (conds : List Cond) (uses : List Use)
+    (met : Bool) (a : Act)
     → act_where h v c (Some (Read ts of txn attempt conds uses)) (if met then Some Processes else None) ≡ Some a → records_wait a ≡ true → A
 unfolding records_wait
 waited_not h v c ts of txn attempt conds uses met a e w = grind (arith, not_a_wait)

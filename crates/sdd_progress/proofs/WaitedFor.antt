@@ -47,7 +47,8 @@ below_attempt g log c a t h good l ups e below =
     let u = w.unanswered in
     let p = pipe c (at_module g u.d log) in
     let x = some_head p.unprocessed u.place u.message u.there in
-    let le = first_le p.unprocessed u.place x.0 u.message (rising_right p.processed p.unprocessed (pipe_rises g log c u.d h good l u.module_is w.up)) x.1 u.there in
+    let le =
+    first_le p.unprocessed u.place x.0 u.message (rising_right p.processed p.unprocessed (pipe_rises g log c u.d h good l u.module_is w.up)) x.1 u.there in
     let time = read_time a.ts c u.message u.is_its in
     record { here = record { d = u.d; module_is = u.module_is; message = x.0; head_is = x.1; below = omega (arith, le, time, below) }; up = w.up }
 
@@ -57,7 +58,8 @@ in_class : (c : ℕ) (ms : List Msg) (k : ℕ) (m : Msg) → slice_get ms k ≡ 
 in_class c ms k m e f = kept_there (goes_through c) ms k m e f
 
 put_in_pipe : (g : Input) (log : Log) (c d k : ℕ) (m : Msg) → IsStill g log → FitsInput g → IsClass g.catalogue c → IsModule g.catalogue d
-    → is_down (D (dm_no d)) log ≡ false → slice_get (puts_to (D (dm_no d)) (at_home g c log)) k ≡ Some m → goes_through c m ≡ true → IsThere (all_of (pipe c (at_module g d log))) m
+    → is_down (D (dm_no d)) log ≡ false → slice_get (puts_to (D (dm_no d)) (at_home g c log)) k ≡ Some m → goes_through c m ≡ true
+    → IsThere (all_of (pipe c (at_module g d log))) m
 put_in_pipe g log c d k m h good l w up e f =
     subst (λ ms. IsThere ms m) (sym (pipe_has_all g log c d h good.sound l w up)) (in_class c (puts_to (D (dm_no d)) (at_home g c log)) k m e f)
 
@@ -123,7 +125,8 @@ conds_of _ = []
 -- what a READ that waits lacks now it lacked when it began to wait
 ask_put : (g : Input) (log : Log) (c ts : ℕ) (conds : List Cond) (r : IsReader g log c ts conds) (n : ℕ) (x : Cond) → IsStill g log → FitsInput g
     → is_down (D (dm_no r.d)) log ≡ false → slice_get conds n ≡ Some x → IsClass g.catalogue x.class.0
-    → passed (pipe x.class.0 (at_module g r.d log)) x.time.0 ≡ false → (k : ℕ) × (slice_get (puts_to (home g.catalogue x.class.0) (at_module g r.d log)) k ≡ Some (Ask x.class x.time))
+    → passed (pipe x.class.0 (at_module g r.d log)) x.time.0 ≡ false
+    → (k : ℕ) × (slice_get (puts_to (home g.catalogue x.class.0) (at_module g r.d log)) k ≡ Some (Ask x.class x.time))
 ask_put g log c ts conds r n x h good up e l not_yet =
     let s : Setting = setting_of g (D (dm_no r.d)) in
     let lm : site.Log = at_module g r.d log in

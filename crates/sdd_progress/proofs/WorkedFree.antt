@@ -100,7 +100,8 @@ worked_answer =
     (ends query (take 2 (extended 7 asked []) ++ Hand (T (tm_no 1)) (D (dm_no 1)) 1 read ∷ extended 4 asked []) refl (record { sound = sound; once = λ n. (let h = one_at_most (1 == n) in omega arith); lawful = made_lawful 7 asked [] tt; over = refl }))
 
 -- at once, since it doesn't wait and isn't spoilt
-pub worked_judged : IsAnsweredIn (dm_no 1) 1 (txn_no 1) 1 (take 1 (extended 7 asked [])) ⊎ IsRejectedAfter asked (extended 6 asked []) (dm_no 1) 1 (txn_no 1) 1 [] (take 1 (extended 7 asked []))
+pub worked_judged : IsAnsweredIn (dm_no 1) 1 (txn_no 1) 1 (take 1 (extended 7 asked [])) ⊎ IsRejectedAfter asked (extended 6 asked []) (dm_no 1) 1
+    (txn_no 1) 1 [] (take 1 (extended 7 asked []))
 worked_judged =
     answered_or_rejected asked (dm_no 1) 1 (take 1 (extended 7 asked [])) (extended 6 asked []) (time_at 65) (class_no 1) (txn_no 1) 1 [] of_query
     (ends query (take 1 (extended 7 asked []) ++ extended 6 asked []) refl (record { sound = sound; once = λ n. (let h = one_at_most (1 == n) in omega arith); lawful = made_lawful 7 asked [] tt; over = refl })) (lit≤ tt) (lit≤ tt) (lit≤ tt) refl refl refl refl

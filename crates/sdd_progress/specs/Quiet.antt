@@ -1,11 +1,7 @@
 -- Logs at which nothing goes on: nothing is under way on a link, and nothing is due at a site.
 use Rattle.std.specs.Prelude.{ℕ, ◌≡◌, false, true, None}
-use Rattle.sdd_obligations.specs.All.{D, Input, IsModuleOf, IsPermitted, Log, Site, T, all_links, calls_of, dm_no, hand_due, home, is_down, local_of, quiet, site_due, tm_no}
+use Rattle.sdd_obligations.specs.All.{D, Input, IsModuleOf, IsPermitted, Log, Site, all_links, calls_of, dm_no, hand_due, home, is_down, local_of, quiet, site_due}
 use Rattle.sdd_obligations.specs.site_module.SiteLog as site
-
--- no transaction module is down
-abbrev pub TmsAreUp : Input → Log → Type 0
-TmsAreUp g log = (t : ℕ) → IsModuleOf g (T (tm_no t)) → is_down (T (tm_no t)) log ≡ false
 
 -- Nothing is in flight and nothing unacknowledged, and neither an act nor a hand is due. Modules may be down: what waits at
 -- one isn't due.

@@ -1,6 +1,7 @@
 pub mod Flooding
 pub mod Steps
 pub mod Pivots
+pub mod WordPlaces
 pub mod PlaceSets
 pub mod Rests
 pub mod StandingFor

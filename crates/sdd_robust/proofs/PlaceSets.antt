@@ -1,14 +1,15 @@
 -- Sets of places: one more, one less, without those of another one.
-use Rattle.std.proofs.Common.{Bool, Contains, List, [], ap, arith, inl, inr, length, slice_index_or as get_or, slice_set as set, subst, sym, true, w64, ℕ, ◌*◌, ◌+◌, ◌++◌, ◌∷◌, ◌-◌, ◌/◌, ◌%◌, ◌^◌, ◌<◌, ◌∙◌, ◌≡◌, ◌≤◌, ◌⊎◌}
+use Rattle.std.proofs.Common.{Bool, Contains, List, ap, arith, inl, inr, length, max, slice_index_or as get_or, slice_set as set, subst, sym, true, w64, ℕ, ◌*◌, ◌+◌, ◌++◌, ◌-◌, ◌/◌, ◌%◌, ◌^◌, ◌<◌, ◌∙◌, ◌≡◌, ◌≤◌, ◌⊎◌}
 use Rattle.std.specs.Prelude.{bit_and, bit_or, min}
-use Rattle.std.specs.Int.{bit_at, bit_not}
+use Rattle.std.specs.Int.{bit_at, bit_not, trailing_zeros}
 use Rattle.std.proofs.lemmas.Bool.{cases_eq, cases_lt}
 use Rattle.std.proofs.lemmas.List.{get_or-set_other, get_or-set_same, get_or_default, get_or_past, length-set}
-use Rattle.std.proofs.lemmas.List.Elements.{Contains-append_left, Contains-push}
+use Rattle.std.proofs.lemmas.List.Elements.{Contains-append_left, Contains-append_right}
 use Rattle.std.proofs.lemmas.Nat.{and_le_l}
-use Rattle.std.proofs.lemmas.Nat.Bits.{bit_at-lt, bit_at-zero, bit_at_and, bit_at_clear_other, bit_at_clear_same, bit_at_not, bit_at_or, bit_at_set_same}
-use Rattle.sdd_robust.specs.PlaceSets.{Has, Lacks, TakesOut, place_bit}
+use Rattle.std.proofs.lemmas.Nat.Bits.{bit_at-lt, bit_at-trailing_zeros, bit_at-zero, bit_at_and, bit_at_clear_other, bit_at_clear_same, bit_at_not, bit_at_or, bit_at_set_other, bit_at_set_same}
+use Rattle.sdd_robust.specs.PlaceSets.{Has, Lacks, TakesOut, place_bit, word_places}
 use Rattle.sdd_robust.specs.declared.member.Member.{Member}
+use Rattle.sdd_robust.proofs.WordPlaces.{in_word}
 
 -- a place is in a set or isn't
 
@@ -49,6 +50,20 @@ module _ (words : List ℕ) (place word : ℕ) (l : place / 64 < length words) (
         | inr n ↦ ap (λ x. bit_at x (other % 64)) (get_or-set_other words (place / 64) (other / 64) with_bit 0 n) ∙ h
       ]
 
+  pub no_other_added : (other : ℕ) → Lacks words other → Lacks (set words (place / 64) with_bit) other ⊎ (other ≡ place)
+  no_other_added other h =
+      elim (cases_eq (other / 64) (place / 64)) [
+        | inl e ↦
+            let here : get_or (set words (place / 64) with_bit) (other / 64) 0 ≡ with_bit =
+            ap (λ z. get_or (set words (place / 64) with_bit) z 0) e ∙ get_or-set_same words (place / 64) with_bit 0 l in
+            let old : bit_at word (other % 64) ≡ 0 = ap (λ x. bit_at x (other % 64)) (word_is ∙ ap (λ z. get_or words z 0) (sym e)) ∙ h in
+            elim (cases_eq (other % 64) (place % 64)) [
+              | inl q ↦ inr (omega (arith, e, q))
+              | inr n ↦ inl (ap (λ x. bit_at x (other % 64)) here ∙ bit_at_set_other w64 word (place % 64) (omega arith) (other % 64) n ∙ old)
+            ]
+        | inr n ↦ inl (ap (λ x. bit_at x (other % 64)) (get_or-set_other words (place / 64) (other / 64) with_bit 0 n) ∙ h)
+      ]
+
 -- one less
 
 module _ (words : List ℕ) (place word : ℕ) (l : place / 64 < length words) (is : word ≡ get_or words (place / 64) word) where
@@ -76,6 +91,20 @@ module _ (words : List ℕ) (place word : ℕ) (l : place / 64 < length words) (
         | inr n ↦ inl (ap (λ x. bit_at x (other % 64)) (sym (get_or-set_other words (place / 64) (other / 64) without_bit 0 n)) ∙ h)
       ]
 
+  pub fewer_have : (other : ℕ) → Has (set words (place / 64) without_bit) other → Has words other
+  fewer_have other h =
+      elim (cases_eq (other / 64) (place / 64)) [
+        | inl e ↦
+            let here : get_or (set words (place / 64) without_bit) (other / 64) 0 ≡ without_bit =
+            ap (λ z. get_or (set words (place / 64) without_bit) z 0) e ∙ get_or-set_same words (place / 64) without_bit 0 l in
+            let was : get_or words (other / 64) 0 ≡ word = ap (λ z. get_or words z 0) e ∙ sym (is ∙ get_or_default words (place / 64) word 0 l) in
+            let now : bit_at without_bit (other % 64) ≡ 1 = ap (λ x. bit_at x (other % 64)) (sym here) ∙ h in
+            let two = bit_at_and word (bit_not w64 (1 * 2 ^ (place % 64) % 2 ^ 64)) (other % 64) in
+            let small = bit_at-lt word (other % 64) in
+            ap (λ x. bit_at x (other % 64)) was ∙ omega (arith, two, now, small)
+        | inr n ↦ ap (λ x. bit_at x (other % 64)) (sym (get_or-set_other words (place / 64) (other / 64) without_bit 0 n)) ∙ h
+      ]
+
 pub lacks_past : (words : List ℕ) (place : ℕ) → length words ≤ place / 64 → Lacks words place
 lacks_past words place l = ap (λ x. bit_at x (place % 64)) (get_or_past words (place / 64) 0 l) ∙ bit_at-zero (place % 64)
 
@@ -85,21 +114,6 @@ pub rest_of_word : (word other bit : ℕ) → other < 2 ^ 64 → bit < 64
     → bit_at (bit_and word (bit_not w64 other)) bit ≡ min (bit_at word bit) (1 - bit_at other bit)
 rest_of_word word other bit fits l = bit_at_and word (bit_not w64 other) bit ∙ ap (min (bit_at word bit)) (bit_at_not w64 other bit fits l)
 
-pub none_taken : (word other bit : ℕ) → bit_and word other ≡ 0 → bit_at word bit ≡ 1 → bit_at other bit ≡ 1 → ⊥
-none_taken word other bit e p q =
-    let both = bit_at_and word other bit in
-    let none : bit_at (bit_and word other) bit ≡ 0 = ap (λ x. bit_at x bit) e ∙ bit_at-zero bit in
-    omega (arith, both, none, p, q)
-
-pub taken_bit : (word other bit : ℕ) → bit_at word bit ≡ 1 → bit_at other bit ≡ 1 → bit_at (bit_and word other) bit ≡ 1
-taken_bit word other bit p q = let both = bit_at_and word other bit in omega (arith, both, p, q)
-
-pub pushed_kept : (middle after : List ℕ) (x : ℕ) → after ≡ middle ++ x ∷ [] → (place : ℕ) → Contains middle place → Contains after place
-pushed_kept middle after x e place h = subst (λ z. Contains z place) (sym e) (Contains-append_left middle (x ∷ []) place h)
-
-pub pushed_there : (middle after : List ℕ) (x : ℕ) → after ≡ middle ++ x ∷ [] → Contains after x
-pushed_there middle after x e = subst (λ z. Contains z x) (sym e) (Contains-push middle x)
-
 -- clearing a bit that is set makes a word smaller
 pub cleared : (word bit : ℕ) → bit < 64 → bit_at word bit ≡ 1 → bit_and word (bit_not w64 (1 * 2 ^ bit % 2 ^ 64)) < word
 cleared word bit small there =
@@ -108,22 +122,6 @@ cleared word bit small there =
     elim (cases_eq left word) [
       | inl same ↦ absurd (let both : bit_at left bit ≡ bit_at word bit = ap (λ x. bit_at x bit) same in omega (arith, both, gone, there))
       | inr other ↦ let less = and_le_l word (bit_not w64 (1 * 2 ^ bit % 2 ^ 64)) in omega (arith, less, other)
-    ]
-
--- of a word each bit is left, or its place stands in a queue
-abbrev pub AreQueued : ℕ → ℕ → ℕ → List ℕ → Type 0
-AreQueued word left first queue =
-    (bit : ℕ) → bit < 64 → bit_at word bit ≡ 1 → (bit_at left bit ≡ 1) ⊎ Contains queue (first + bit)
-
-pub one_more_queued : (word left first bit : ℕ) (before after : List ℕ) → bit < 64 → after ≡ before ++ (first + bit) ∷ []
-    → AreQueued word left first before → AreQueued word (bit_and left (bit_not w64 (1 * 2 ^ bit % 2 ^ 64))) first after
-one_more_queued word left first bit before after small is queued other l e =
-    elim (cases_eq other bit) [
-      | inl q ↦ inr (subst (λ z. Contains after (first + z)) (sym q) (pushed_there before after (first + bit) is))
-      | inr d ↦ elim (queued other l e) [
-        | inl still ↦ inl (bit_at_clear_other w64 left bit small other l d ∙ still)
-        | inr there ↦ inr (pushed_kept before after (first + bit) is (first + other) there)
-      ]
     ]
 
 -- Of the first n words the bits of the others are taken.
@@ -139,8 +137,17 @@ pub record AreTaken (old others now before after : List ℕ) (n : ℕ) : Type 0 
 module _ (old others now before middle after : List ℕ) (n word other rest : ℕ) (taken : AreTaken old others now before middle n)
     (l : n < length now) (word_is : word ≡ get_or now n 0) (other_is : other ≡ get_or others n 0)
     (rest_is : (bit : ℕ) → bit < 64 → bit_at rest bit ≡ min (bit_at word bit) (1 - bit_at other bit))
-    (kept : (place : ℕ) → Contains middle place → Contains after place)
-    (queued : (bit : ℕ) → bit < 64 → bit_at word bit ≡ 1 → bit_at other bit ≡ 1 → Contains after (n * 64 + bit)) where
+    (queue_is : after ≡ middle ++ word_places (bit_and word other) (n * 64)) where
+  still_there : (place : ℕ) → Contains middle place → Contains after place
+  still_there place h = subst (λ z. Contains z place) (sym queue_is) (Contains-append_left middle (word_places (bit_and word other) (n * 64)) place h)
+
+  now_there : (bit : ℕ) → bit < 64 → bit_at word bit ≡ 1 → bit_at other bit ≡ 1 → Contains after (n * 64 + bit)
+  now_there bit small p q =
+      let two = bit_at_and word other bit in
+      let here = in_word (bit_and word other) (n * 64) bit small (omega (arith, two, p, q)) in
+      subst (λ z. Contains z (n * 64 + bit)) (sym queue_is)
+      (Contains-append_right middle (word_places (bit_and word other) (n * 64)) (n * 64 + bit) here)
+
   old_word : get_or old n 0 ≡ word
   old_word = sym (taken.to_come n (omega arith)) ∙ sym word_is
 
@@ -162,9 +169,9 @@ module _ (old others now before middle after : List ℕ) (n word other rest : �
       elim (cases_eq k n) [
         | inl e ↦
             subst (λ z. Contains after (z * 64 + bit)) (sym e)
-            (queued bit small (ap (λ x. bit_at x bit) (sym old_word ∙ ap (λ z. get_or old z 0) (sym e)) ∙ p)
+            (now_there bit small (ap (λ x. bit_at x bit) (sym old_word ∙ ap (λ z. get_or old z 0) (sym e)) ∙ p)
             (ap (λ x. bit_at x bit) (other_is ∙ ap (λ z. get_or others z 0) (sym e)) ∙ q))
-        | inr d ↦ kept (k * 64 + bit) (taken.queued k bit (omega (arith, low, d)) small p q)
+        | inr d ↦ still_there (k * 64 + bit) (taken.queued k bit (omega (arith, low, d)) small p q)
       ]
 
   pub taken_more : AreTaken old others (set now n rest) before after (n + 1)
@@ -172,7 +179,7 @@ module _ (old others now before middle after : List ℕ) (n word other rest : �
     long = length-set now n rest ∙ taken.long;
     done = done_more;
     to_come = λ k high. get_or-set_other now n k rest 0 (λ e. omega (arith, e, high)) ∙ taken.to_come k (omega (arith, high));
-    kept = λ place h. kept place (taken.kept place h);
+    kept = λ place h. still_there place (taken.kept place h);
     queued = queued_more;
   }
 
@@ -213,6 +220,45 @@ module _ (old others new before after : List ℕ) (n : ℕ) (taken : AreTaken ol
 
   pub takes_out : TakesOut old others new before after
   takes_out = record { fewer = fewer; apart = apart; kept = taken.kept; queued = queued }
+
+-- Of the first n words the bits of the others are added.
+pub record AreAdded (old others now : List ℕ) (n : ℕ) : Type 0 where
+  pub long : length now ≡ length old
+  pub done : (k bit : ℕ) → k < n → bit_at (get_or now k 0) bit ≡ max (bit_at (get_or old k 0) bit) (bit_at (get_or others k 0) bit)
+  pub to_come : (k : ℕ) → n ≤ k → get_or now k 0 ≡ get_or old k 0
+
+module _ (old others now : List ℕ) (n word other : ℕ) (are : AreAdded old others now n) (l : n < length now) (word_is : word ≡ get_or now n 0)
+    (other_is : other ≡ get_or others n 0) where
+  all_more : (k bit : ℕ) → k < n + 1
+      → bit_at (get_or (set now n (bit_or word other)) k 0) bit ≡ max (bit_at (get_or old k 0) bit) (bit_at (get_or others k 0) bit)
+  all_more k bit low =
+      elim (cases_eq k n) [
+        | inl e ↦
+            subst (λ z. bit_at (get_or (set now n (bit_or word other)) z 0) bit ≡ max (bit_at (get_or old z 0) bit) (bit_at (get_or others z 0) bit)) (sym e)
+            (ap (λ x. bit_at x bit) (get_or-set_same now n (bit_or word other) 0 l) ∙ bit_at_or word other bit
+            ∙ ap (λ x. max (bit_at x bit) (bit_at other bit)) (word_is ∙ are.to_come n (omega arith))
+            ∙ ap (λ x. max (bit_at (get_or old n 0) bit) (bit_at x bit)) other_is)
+        | inr d ↦ ap (λ x. bit_at x bit) (get_or-set_other now n k (bit_or word other) 0 d) ∙ are.done k bit (omega (arith, low, d))
+      ]
+
+  pub added_more : AreAdded old others (set now n (bit_or word other)) (n + 1)
+  added_more = record {
+    long = length-set now n (bit_or word other) ∙ are.long;
+    done = all_more;
+    to_come = λ k high. get_or-set_other now n k (bit_or word other) 0 (λ e. omega (arith, e, high)) ∙ are.to_come k (omega (arith, high));
+  }
+
+-- a set has a place where a word isn't 0
+
+pub one_there : (words : List ℕ) (at word : ℕ) → word ≡ get_or words at 0 → (bit : ℕ) × (bit < 64) × (bit_at word bit ≡ 1)
+    → (place : ℕ) × Has words place
+one_there words at word is one =
+    let word_at : (at * 64 + one.0) / 64 ≡ at = omega (arith, one.1) in
+    let bit_is : (at * 64 + one.0) % 64 ≡ one.0 = omega (arith, one.1) in
+    (at * 64 + one.0, rw (word_at, bit_is, ← is) one.2)
+
+pub one_bit : (word : ℕ) → 0 < word → word < 2 ^ 64 → (bit : ℕ) × (bit < 64) × (bit_at word bit ≡ 1)
+one_bit word positive fits = let lowest = bit_at-trailing_zeros w64 word positive fits in (trailing_zeros w64 word, lowest.0, lowest.1)
 
 -- A set gets the places of members one after the other.
 

@@ -1,6 +1,7 @@
 -- Sets of places among members, as words of 64 bits, and what a flood along conflicts leaves of one.
-use Rattle.std.specs.Prelude.{ℕ, ◌%◌, ◌/◌, ◌≡◌, ◌⊎◌, Bool, Contains, List, Option, None, Some, slice_index, slice_index_or, false, true}
+use Rattle.std.specs.Prelude.{ℕ, ◌%◌, ◌*◌, ◌-◌, ◌/◌, ◌==◌, ◌&&◌, ◌≡◌, ◌⊎◌, Bool, Contains, List, Option, None, Some, filter, length, slice_index, slice_index_or, false, true}
 use Rattle.std.specs.Int.{bit_at}
+use Rattle.std.specs.List.{range_with_len}
 use Rattle.sdd_robust_laws.specs.Accesses.{conflict}
 use Rattle.sdd_robust.specs.declared.member.Member.{Member}
 
@@ -13,6 +14,20 @@ Has words place = place_bit words place ≡ 1
 
 abbrev pub Lacks : List ℕ → ℕ → Type 0
 Lacks words place = place_bit words place ≡ 0
+
+abbrev pub has : List ℕ → ℕ → Bool
+has words place = place_bit words place == 1
+
+-- the places of a set, ascending; and those that two sets have
+abbrev pub places_of : List ℕ → List ℕ
+places_of words = filter (has words) (range_with_len 0 (64 * length words))
+
+abbrev pub common : List ℕ → List ℕ → List ℕ
+common words others = filter (λ place. has words place && has others place) (range_with_len 0 (64 * length words))
+
+-- the places of the bits of a word, ascending, of which the first one is told
+abbrev pub word_places : ℕ → ℕ → List ℕ
+word_places word first = filter (λ place. bit_at word (place - first) == 1) (range_with_len first 64)
 
 -- the set has the place of each member of which the test is true
 abbrev pub HasEach : (Member → Bool) → List Member → List ℕ → Type 0

@@ -6,7 +6,8 @@
 //! passes is robust. To the layer above: `members` gives exactly what the transactions of a workload
 //! access; `find_pivot` finds none exactly where the workload passes, and then it is robust; a pivot that
 //! it finds is dangerous by the two that are told with it (`specs/Workloads.antt`). `first_pivot` is the
-//! test over any accesses (`specs/Pivots.antt`).
+//! test over any accesses (`specs/Pivots.antt`). `PlaceSet` is a set of places among transactions
+//! (`specs/PlaceSets.antt`).
 #![tactic(auto)]
 
 mod accessing;
@@ -30,3 +31,4 @@ pub use judging::{Places, find_pivot, members};
 pub use meeting::{are_apart, conflict, may_miss, reads_from};
 pub use member::{Accesses, Member};
 pub use pivot::{Pivot, first_pivot};
+pub use place_set::PlaceSet;

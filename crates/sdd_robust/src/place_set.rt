@@ -1,7 +1,7 @@
 //! Sets of places, as words of 64 bits.
-ghost use Rattle.std.specs.Prelude.{ℕ, ◌≡◌, ◌+◌, ◌-◌, ◌/◌, ◌<◌, ◌^◌, ◌≤◌, ◌⊎◌, Contains, IfOk, OnOk, false, length, min, slice_index, true};
+ghost use Rattle.std.specs.Prelude.{ℕ, ◌≡◌, ◌+◌, ◌++◌, ◌-◌, ◌/◌, ◌<◌, ◌^◌, ◌≤◌, ◌⊎◌, ◌↔◌, Contains, IfOk, IsTrue, OnOk, bit_and, false, length, min, slice_index, true};
 ghost use Rattle.std.specs.Int.{bit_at};
-ghost use Rattle.sdd_robust.specs.PlaceSets.{Has, Lacks, TakesOut};
+ghost use Rattle.sdd_robust.specs.PlaceSets.{Has, Lacks, TakesOut, common, places_of, word_places};
 
 use sdd_lang::NoMemory;
 use std::alloc::Global;
@@ -10,7 +10,7 @@ use std::marker::Model;
 
 /// A set of places. It has room for those below a number that is told when it is made.
 #[derive(Drop)]
-pub(crate) struct PlaceSet {
+pub struct PlaceSet {
     words: Vec<u64>,
 }
 
@@ -24,11 +24,10 @@ impl Model for PlaceSet {
     ghost invariant = { λ s. length s.words.items ≤ 2 ^ 58 };
 }
 
-/// Adds the places of a word's bits, of which the first one is told.
+/// Adds the places of a word's bits, ascending, of which the first one is told.
 fn queue_places(word: u64, first: usize, queue: &mut VecDeque<usize>) -> Result<(), NoMemory>
     requires { first + 64 ≤ 2 ^ 64 }
-    ensures kept { OnOk result ((place : ℕ) → Contains queue.old.items place → Contains queue.new.items place) }
-    ensures queued { OnOk result ((bit : ℕ) → bit < 64 → bit_at word bit ≡ 1 → Contains queue.new.items (first + bit)) }
+    ensures { OnOk result (queue.new.items ≡ queue.old.items ++ word_places word first) }
 {
     let mut left = word;
     'bits: while left != 0 {
@@ -48,8 +47,7 @@ fn take_word(
 ) -> Result<u64, NoMemory>
     requires { first + 64 ≤ 2 ^ 64 }
     ensures rest { IfOk result (λ rest. (bit : ℕ) → bit < 64 → bit_at rest bit ≡ min (bit_at word bit) (1 - bit_at other bit)) }
-    ensures kept { OnOk result ((place : ℕ) → Contains queue.old.items place → Contains queue.new.items place) }
-    ensures queued { OnOk result ((bit : ℕ) → bit < 64 → bit_at word bit ≡ 1 → bit_at other bit ≡ 1 → Contains queue.new.items (first + bit)) }
+    ensures queued { OnOk result (queue.new.items ≡ queue.old.items ++ word_places (bit_and word other) first) }
 {
     let taken = word & other;
     if taken != 0 {
@@ -58,10 +56,22 @@ fn take_word(
     Ok(word & !other)
 }
 
+/// Whether a bit of the word is 1.
+fn has_one(word: u64) -> bool
+    ensures none { result ≡ false → word ≡ 0 }
+    ensures one { result ≡ true → (bit : ℕ) × (bit < 64) × (bit_at word bit ≡ 1) }
+{
+    if word != 0 {
+        return true;
+    }
+    false
+}
+
 impl PlaceSet {
     /// None, with room for those below the number.
-    pub(crate) fn new(alloc: Global, count: usize) -> Result<PlaceSet, NoMemory>
-        ensures { IfOk result (λ set. length set ≡ count / 64 + 1) }
+    pub fn new(alloc: Global, count: usize) -> Result<PlaceSet, NoMemory>
+        ensures none { IfOk result (λ set. (place : ℕ) → Lacks set place) }
+        ensures room { IfOk result (λ set. length set ≡ count / 64 + 1) }
     {
         let words = vec![in alloc; 0u64; count / 64 + 1]?;
         Ok(PlaceSet { words })
@@ -85,21 +95,45 @@ impl PlaceSet {
         }
     }
 
-    pub(crate) fn has(&self, place: usize) -> bool
+    /// Whether the place is among them.
+    pub fn has(&self, place: usize) -> bool
         ensures there { result ≡ true → Has self.now place }
         ensures not_there { result ≡ false → Lacks self.now place }
     {
         (self.word(place / 64) >> (place % 64)) & 1 == 1
     }
 
-    /// Adds a place for which there is room.
-    fn add(&mut self, place: usize)
-        requires { place / 64 < length self.old }
-        ensures added { Has self.new place }
+    /// Whether there is none.
+    pub fn is_empty(&self) -> bool
+        ensures none { result ≡ true → (place : ℕ) → Lacks self.now place }
+        ensures one { result ≡ false → (place : ℕ) × Has self.now place }
+    {
+        'words: for at in 0..self.words.len() {
+            if has_one(self.words[at]) {
+                return false;
+            }
+        }
+        true
+    }
+
+    /// Whether both have the same places, and room for as many.
+    pub fn is_same(&self, other: &PlaceSet) -> bool
+        ensures { IsTrue result ↔ self.now ≡ other.now }
+    {
+        self.words.as_slice() == other.words.as_slice()
+    }
+
+    /// Adds a place, if there is room for it.
+    pub fn add(&mut self, place: usize)
+        ensures added { place / 64 < length self.old → Has self.new place }
         ensures kept { (other : ℕ) → Has self.old other → Has self.new other }
+        ensures no_other { (other : ℕ) → Lacks self.old other → Lacks self.new other ⊎ (other ≡ place) }
         ensures room { length self.new ≡ length self.old }
     {
-        self.words[place / 64] |= 1u64 << (place % 64);
+        let at = place / 64;
+        if at < self.words.len() {
+            self.words[at] |= 1u64 << (place % 64);
+        }
     }
 
     /// Adds a place for which there is room, where it is told so.
@@ -107,6 +141,7 @@ impl PlaceSet {
         requires { place / 64 < length self.old }
         ensures added { is_so ≡ true → Has self.new place }
         ensures kept { (other : ℕ) → Has self.old other → Has self.new other }
+        ensures no_other { (other : ℕ) → Lacks self.old other → Lacks self.new other ⊎ ((is_so ≡ true) × (other ≡ place)) }
         ensures room { length self.new ≡ length self.old }
     {
         if is_so {
@@ -114,8 +149,22 @@ impl PlaceSet {
         }
     }
 
+    /// Adds those of another set for which there is room.
+    pub fn add_all(&mut self, others: &PlaceSet)
+        ensures added { (place : ℕ) → place / 64 < length self.old → Has others.now place → Has self.new place }
+        ensures kept { (place : ℕ) → Has self.old place → Has self.new place }
+        ensures no_other { (place : ℕ) → Lacks self.old place → Lacks others.now place → Lacks self.new place }
+        ensures room { length self.new ≡ length self.old }
+    {
+        'words: for at in 0..self.words.len() {
+            self.words[at] |= others.word(at);
+        }
+    }
+
+    /// Takes a place out.
     pub(crate) fn remove(&mut self, place: usize)
         ensures gone { Lacks self.new place }
+        ensures fewer { (other : ℕ) → Has self.new other → Has self.old other }
         ensures others { (other : ℕ) → Lacks self.new other → Lacks self.old other ⊎ (other ≡ place) }
         ensures room { length self.new ≡ length self.old }
     {
@@ -144,5 +193,23 @@ impl PlaceSet {
             self.words[at] = take_word(word, other, at * 64, queue)?;
         }
         Ok(false)
+    }
+
+    /// Those that both sets have, ascending.
+    pub fn common(&self, alloc: Global, others: &PlaceSet) -> Result<Vec<usize>, NoMemory>
+        ensures { IfOk result (λ found. found.items ≡ common self.now others.now) }
+    {
+        let mut found = VecDeque::new(alloc);
+        'words: for at in 0..self.words.len() {
+            queue_places(self.words[at] & others.word(at), at * 64, &mut found)?;
+        }
+        Ok(Vec::from(found))
+    }
+
+    /// All of them, ascending.
+    pub fn list(&self, alloc: Global) -> Result<Vec<usize>, NoMemory>
+        ensures { IfOk result (λ found. found.items ≡ places_of self.now) }
+    {
+        self.common(alloc, self)
     }
 }

@@ -12,7 +12,8 @@ pub same_catalogue : (g : Input) (es : List Event) → (with_events g es).catalo
 same_catalogue g es = ap (λ (x : Input). x.catalogue) (with_events_is g es)
 
 -- a run is given all of its events
-pub all_given : (cat : Catalogue) (tables : List (List Entry)) (work : Workload) → with_events (first_input cat tables work) work.events ≡ input_of cat tables work
+pub all_given : (cat : Catalogue) (tables : List (List Entry)) (work : Workload)
+    → with_events (first_input cat tables work) work.events ≡ input_of cat tables work
 all_given cat tables work = with_events_is (first_input cat tables work) work.events
 
 -- of each data module the rows are those of the workload

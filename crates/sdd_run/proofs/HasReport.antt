@@ -23,7 +23,8 @@ has_run cat work valid =
       | inr limit ↦ inr (record { tables = all.0; tables_are = all.1; log = ends.0; ends = limit })
     ]
 
-pub has_report : (cat : Catalogue) (work : Workload) → IsSoundCatalogue cat → IsValid cat work → ((text : List ℕ) × IsReportOn cat work text) ⊎ EndsAtLimit cat work
+pub has_report : (cat : Catalogue) (work : Workload) → IsSoundCatalogue cat → IsValid cat work
+    → ((text : List ℕ) × IsReportOn cat work text) ⊎ EndsAtLimit cat work
 has_report cat work sound valid = elim (has_run cat work valid) [
   | inl r ↦ inl (
     report_text (report r),

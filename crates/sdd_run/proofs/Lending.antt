@@ -19,7 +19,8 @@ tabled_more cats i cat tables table l is h k =
 -- the list at a place
 
 at_place : (cats : List Catalogue) (tables : List (List Entry)) (k : ℕ) (cat : Catalogue) (table : List Entry)
-    → slice_get cats k ≡ Some cat → slice_get tables k ≡ Some table → slice_get (eras_with_tables cats tables) k ≡ Some (record { catalogue = cat; table = table })
+    → slice_get cats k ≡ Some cat → slice_get tables k ≡ Some table
+    → slice_get (eras_with_tables cats tables) k ≡ Some (record { catalogue = cat; table = table })
 at_place (c ∷ cats) (t ∷ tables) zero cat table e f = grind arith
 at_place (c ∷ cats) (t ∷ tables) (suc k) cat table e f = at_place cats tables k cat table e f
 at_place _ _ k cat table e f = absurd (cc)

@@ -38,7 +38,8 @@ line_here c qs None n j q there is =
     queued_here c (position (λ (x : Queued). x.number == n) qs) p.0 p.1
 line_here c qs (Some a) n j q there is =
     elim (a.txn == n)
-    as (λ b. (a.txn == n) ≡ b → IsHere (if b then underway c a.ts a.exchange else queued_at c (position (λ (x : Queued). x.number == n) (waiting (Some a) qs)))) [
+    as (λ b. (a.txn == n) ≡ b
+    → IsHere (if b then underway c a.ts a.exchange else queued_at c (position (λ (x : Queued). x.number == n) (waiting (Some a) qs)))) [
       | true ↦ λ e. tt
       | false ↦ λ e.
           let kept = kept_there (λ (x : Queued). not (x.number == a.txn)) qs j q there (ap (λ m. not (m == a.txn)) is ∙ other_number n a.txn e) in
@@ -105,7 +106,11 @@ was_committed ((event, Commit txn attempt reply changes values rows) ∷ h) n e 
   | inl p ↦
       (let same : Commit txn attempt reply changes values rows ≡ Commit (txn_no n) attempt reply changes values rows =
       ap (λ k. Commit (txn_no k) attempt reply changes values rows) (eqb-true txn.0 n p) in
-      record { place = 0; number = attempt; commit = record { reply = reply; changes = changes; values = values; rows = rows; is_recorded = ap (λ r. Some r) same } })
+      record {
+        place = 0;
+        number = attempt;
+        commit = record { reply = reply; changes = changes; values = values; rows = rows; is_recorded = ap (λ r. Some r) same };
+      })
   | inr p ↦ later_commit (event, Commit txn attempt reply changes values rows) h n (was_committed h n p)
 ]
 was_committed (x ∷ h) n e = later_commit x h n (was_committed h n e)

@@ -168,7 +168,8 @@ module _ (g : Input) (log : Log) (permitted : IsPermitted g log) (c : ℕ) (a : 
   waits_not d conds class module_is lawful idle none r =
       let s : Setting = setting_of g (D (dm_no d)) in
       let l = at_module g d log in
-      let stuck : IsStuck s l c (head (pipe c l)) = head_stuck s l c (omega (arith, class)) (none_at_data g log (dm_no d) module_is.0 module_is.1 lawful idle) in
+      let stuck : IsStuck s l c (head (pipe c l)) =
+      head_stuck s l c (omega (arith, class)) (none_at_data g log (dm_no d) module_is.0 module_is.1 lawful idle) in
       let lacks : list_all (is_met (view_of s l)) conds ≡ false = (subst (IsStuck s l c) r.head_is stuck).1 in
       let x = some_unmet (is_met (view_of s l)) conds lacks in
       let asked : waiting_at c a.ts l ≡ Some conds =

@@ -33,7 +33,8 @@ ended cat tables work tabled events same e = record {
 }
 
 -- each pending transaction was submitted at the site of its class by the last list
-pub last_homes : (cat : Catalogue) (tables : List (List Entry)) (work : Workload) → IsSoundCatalogue (whole_in cat work) → IsValid cat work → AreTables cat work tables
+pub last_homes : (cat : Catalogue) (tables : List (List Entry)) (work : Workload) → IsSoundCatalogue (whole_in cat work) → IsValid cat work
+    → AreTables cat work tables
     → (log : Log) → IsTheLog (input_of cat tables work) log → AreAtLastHomes (input_of cat tables work) log
 last_homes cat tables work sound valid tabled log the_log =
     at_last_homes (input_of cat tables work) log (known_of cat tables work sound valid tabled log the_log)

@@ -29,7 +29,10 @@ committed_by : (h : History) (n number place : ℕ) → HasCommit h n number pla
 committed_by h n number place c a started txn attempt =
     let of_attempt = subst (λ k. IsRecordAt h place (Commit (txn_no n) k c.reply c.changes c.values c.rows)) (sym attempt) c.is_recorded in (
       record { start = a; reply = c.reply; changes = c.changes; values = c.values; rows = c.rows; place = place },
-      record { started = started; committed = subst (λ m. IsRecordAt h place (Commit (txn_no m) a.number c.reply c.changes c.values c.rows)) (sym txn) of_attempt },
+      record {
+        started = started;
+        committed = subst (λ m. IsRecordAt h place (Commit (txn_no m) a.number c.reply c.changes c.values c.rows)) (sym txn) of_attempt;
+      },
       txn,
     )
 

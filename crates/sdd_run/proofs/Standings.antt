@@ -134,7 +134,8 @@ module _ (g : Input) (log : Log) (permitted : IsPermitted g log) (good : FitsInp
   lacks_lowest c a l e =
       let s = setting_of g (home g.catalogue c) in
       let going = goes_on g log c a permitted good l e in
-      let p = or_none (send_due a.exchange) _ (subst (λ o. attempt_due g.catalogue (base_of g log) c o ≡ None) e (attempts_rest g log c good.sound l lawful idle)) in
+      let p =
+      or_none (send_due a.exchange) _ (subst (λ o. attempt_due g.catalogue (base_of g log) c o ≡ None) e (attempts_rest g log c good.sound l lawful idle)) in
       let sent : a.exchange.to_send ≡ [] = no_sends a.exchange.to_send p.0 in
       let low = lowest_of a.exchange.lacks (going.lacks (if_none (is_over a.exchange.phase) _ p.1)) in
       let turns = home_turns g c log permitted (spoken g c log permitted (small_home g.catalogue good.sound c l)) in

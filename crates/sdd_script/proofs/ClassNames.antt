@@ -83,7 +83,8 @@ in_classes name classes = list_any (λ (c : ClassPart). bytes_eq name c.name) cl
 
 pub declared_in_lists : (name : List ℕ) (lists : List (List ClassPart)) (classes : List ClassPart)
     (b : Bool) → b ≡ in_lists name lists → b ≡ true → b ≡ in_classes name (joined lists ++ classes)
-declared_in_lists name lists classes b e t = either_first b (in_lists name lists) (in_classes name classes) e t ∙ sym (grind (arith, list_any-append, named, list_any, any_joined))
+declared_in_lists name lists classes b e t =
+    either_first b (in_lists name lists) (in_classes name classes) e t ∙ sym (grind (arith, list_any-append, named, list_any, any_joined))
 
 pub declared_in_open_list : (name : List ℕ) (lists : List (List ClassPart)) (classes : List ClassPart)
     (b d : Bool) → b ≡ in_lists name lists → b ≡ false → d ≡ in_classes name classes

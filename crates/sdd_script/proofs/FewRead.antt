@@ -90,7 +90,10 @@ past_get (c ∷ cs) (suc i) past = past_get cs i (omega arith)
 
 -- a value past the last column may be of any kind, as all that follow may
 pub steady_kind : (columns : List Column) → IsSteady (length columns) (λ i w. value_of (kind_of_place columns i) w)
-steady_kind columns i w past = cc ((ap (λ o. option_map (λ (c : Column). c.kind) o) (past_get columns i past)), (ap (λ o. option_map (λ (c : Column). c.kind) o) (past_get columns (i + 1) (omega arith))))
+steady_kind columns i w past =
+    let here = ap (λ o. option_map (λ (c : Column). c.kind) o) (past_get columns i past) in
+    let next = ap (λ o. option_map (λ (c : Column). c.kind) o) (past_get columns (i + 1) (omega arith)) in
+    cc (here, next)
 
 -- a relation more of a query
 pub part_more : (cat : Catalogue) (front : List (Option ℕ)) (word : Word) (part : Option ℕ) (words rest : List Word) (total : List (Option ℕ))
@@ -125,7 +128,8 @@ rows_by : (columns : List Column) (rel : RelNo) (words : List Word) (read : Resu
 rows_by columns rel words (Err rule) e = refl
 rows_by columns rel words (Ok xs) e =
     let n = length columns in
-    let long : length xs ≡ length words = (answered (λ i w. value_of (kind_of_place columns i) w) 0 words xs (readings.along_ok (λ i w. value_of (kind_of_place columns i) w) 0 words xs e)) in
+    let long : length xs ≡ length words =
+    (answered (λ i w. value_of (kind_of_place columns i) w) 0 words xs (readings.along_ok (λ i w. value_of (kind_of_place columns i) w) 0 words xs e)) in
     simp (same_count, counted, long)
 
 row_few : (columns : List Column) (rel : RelNo) (words : List Word)

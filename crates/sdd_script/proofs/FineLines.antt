@@ -60,7 +60,9 @@ conditions_fine : (cat : Catalogue) → IsKnown cat → (rels : List RelNo) → 
     → IsFine (Plain key) → (ds : List Condition) → AllByRecursion (FitsCondition cat rels) ds
     → AllByRecursion HoldsValue ds → AreFine (conditions_words key cat rels ds)
 conditions_fine cat k rels p key f [] fits v = tt
-conditions_fine cat k rels p key f (Const left op value ∷ ds) fits v = grind (arith, column_word_is, op_fine, value_fine, simple_fine, (conditions_fine cat k rels p (codes "and") (simple_fine (codes "and") refl) ds fits.1 v.1))
+conditions_fine cat k rels p key f (Const left op value ∷ ds) fits v =
+    let rest = conditions_fine cat k rels p (codes "and") (simple_fine (codes "and") refl) ds fits.1 v.1 in
+    grind (arith, column_word_is, op_fine, value_fine, simple_fine, rest)
 conditions_fine cat k rels p key f (Same left right ∷ ds) fits v = (
   f,
   (

@@ -50,7 +50,8 @@ last_read : (cs : List ClassPart) (last : Option OpenClass) (r : ReadPart)
       last = last;
     }) (with_read (record { classes = cs; last = last }) r) (reads_words r)
 last_read cs None r t = absurd cc
-last_read cs (Some c) r t = (simp (flat_map-append, (read_lines (class_words (class_so_far c)) c.reads r c.writes (none_written c.writes t)), append-nil, append_assoc))
+last_read cs (Some c) r t =
+    (simp (flat_map-append, (read_lines (class_words (class_so_far c)) c.reads r c.writes (none_written c.writes t)), append-nil, append_assoc))
 
 pub read_more : (l : OpenList) (r : ReadPart) → takes_reads l ≡ true → AddsLine l (with_read l r) (reads_words r)
 read_more l r t = last_read l.classes l.last r t
@@ -66,7 +67,8 @@ last_write : (cs : List ClassPart) (last : Option OpenClass) (f : List ℕ)
       last = last;
     }) (with_write (record { classes = cs; last = last }) f) (writes_words f)
 last_write cs None f t = absurd cc
-last_write cs (Some c) f t = (simp (flat_map-append, (write_lines (class_words (class_so_far c)) (map reads_words c.reads) c.writes f), append-nil, append_assoc))
+last_write cs (Some c) f t =
+    (simp (flat_map-append, (write_lines (class_words (class_so_far c)) (map reads_words c.reads) c.writes f), append-nil, append_assoc))
 
 pub write_more : (l : OpenList) (f : List ℕ) → takes_writes l ≡ true → AddsLine l (with_write l f) (writes_words f)
 write_more l f t = last_write l.classes l.last f t

@@ -94,7 +94,8 @@ all_differ [] x h = tt
 all_differ (n ∷ ns) x h = (ne_eqb n x (h 0 (omega arith)), all_differ ns x (λ i lt. h (suc i) (omega arith)))
 
 pub distinct_more : (ns : List ℕ) (x : ℕ) → AreDistinct ns → NonePasses (λ n. n == x) ns → AreDistinct (ns ++ x ∷ [])
-distinct_more ns x h other i k less within d = grind (arith, cases_lt, slice_index_or, get_or_append_left, length-append, get_or, get_or-append_right, zero_of, not_at)
+distinct_more ns x h other i k less within d =
+    grind (arith, cases_lt, slice_index_or, get_or_append_left, length-append, get_or, get_or-append_right, zero_of, not_at)
 
 pub apart_from : (ns : List ℕ) (x : ℕ) (rest : List ℕ) → AreDistinct (ns ++ x ∷ rest) → NonePasses (λ n. n == x) ns
 apart_from ns x rest h = all_differ ns x (λ i lt e.

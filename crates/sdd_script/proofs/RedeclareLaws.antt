@@ -27,10 +27,12 @@ may_redeclare_takes cat lists events e =
     none_down : some_down cat events ≡ false → (at : Site) → IsModule cat at → is_down at events ≡ false
     none_down none U there = absurd there
     none_down none (T tm) there =
-        let h = or_false (list_any (λ n. is_down (T (tm_no n)) events) (numbers_to cat.tms)) (list_any (λ n. is_down (D (dm_no n)) events) (numbers_to cat.dms)) none in
+        let h =
+        or_false (list_any (λ n. is_down (T (tm_no n)) events) (numbers_to cat.tms)) (list_any (λ n. is_down (D (dm_no n)) events) (numbers_to cat.dms)) none in
         none_passes (λ n. is_down (T (tm_no n)) events) 1 cat.tms h.0 tm.0 there.0 (omega (arith, there.1))
     none_down none (D dm) there =
-        let h = or_false (list_any (λ n. is_down (T (tm_no n)) events) (numbers_to cat.tms)) (list_any (λ n. is_down (D (dm_no n)) events) (numbers_to cat.dms)) none in
+        let h =
+        or_false (list_any (λ n. is_down (T (tm_no n)) events) (numbers_to cat.tms)) (list_any (λ n. is_down (D (dm_no n)) events) (numbers_to cat.dms)) none in
         none_passes (λ n. is_down (D (dm_no n)) events) 1 cat.dms h.1 dm.0 there.0 (omega (arith, there.1))
 
 pub may_redeclare_again : (cat : Catalogue) (lists : ℕ) (events : List Event) → MayRedeclare cat lists events → may_redeclare cat lists events ≡ true
@@ -66,7 +68,8 @@ timely_more cat lists events e h may i is =
       | inr le ↦
           let at = at_end events e i Redeclare is le in
           let front : take i (events ++ e ∷ []) ≡ events = ap (λ (n : ℕ). take n (events ++ e ∷ [])) at.0 ∙ take-append_seam events (e ∷ []) in
-          subst (MayRedeclare cat lists) (sym front) (may_redeclare_takes cat lists events (subst (λ (x : Event). may_follow cat lists events x ≡ true) at.1 may))
+          subst (MayRedeclare cat lists) (sym front)
+          (may_redeclare_takes cat lists events (subst (λ (x : Event). may_follow cat lists events x ≡ true) at.1 may))
     ]
 
 -- and where all are timely, each may follow those before it

@@ -65,7 +65,17 @@ name_free bs e = let n = name_parts bs e in name_free_if bs n.letter n.no_key
 
 free_digit : (c : ℕ) (cs : List ℕ) → is_digit c ≡ true → is_free (Plain (c ∷ cs)) ≡ true
 free_digit c cs d =
-    (rw ((ne_eqb c 102 (not_it is_digit c 102 refl d)), (ne_eqb c 119 (not_it is_digit c 119 refl d)), (ne_eqb c 97 (not_it is_digit c 97 refl d)), (ne_eqb c 115 (not_it is_digit c 115 refl d)), (ne_eqb c 43 (not_it is_digit c 43 refl d)), (ne_eqb c 61 (not_it is_digit c 61 refl d)), (ne_eqb c 33 (not_it is_digit c 33 refl d)), (ne_eqb c 60 (not_it is_digit c 60 refl d)), (ne_eqb c 62 (not_it is_digit c 62 refl d))) refl)
+    (rw (
+      (ne_eqb c 102 (not_it is_digit c 102 refl d)),
+      (ne_eqb c 119 (not_it is_digit c 119 refl d)),
+      (ne_eqb c 97 (not_it is_digit c 97 refl d)),
+      (ne_eqb c 115 (not_it is_digit c 115 refl d)),
+      (ne_eqb c 43 (not_it is_digit c 43 refl d)),
+      (ne_eqb c 61 (not_it is_digit c 61 refl d)),
+      (ne_eqb c 33 (not_it is_digit c 33 refl d)),
+      (ne_eqb c 60 (not_it is_digit c 60 refl d)),
+      (ne_eqb c 62 (not_it is_digit c 62 refl d)),
+    ) refl)
 
 -- ---- numbers
 

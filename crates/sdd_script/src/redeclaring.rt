@@ -1,10 +1,11 @@
 //! Where an event may stand after others.
-ghost use Rattle.std.specs.Prelude.{◌≡◌, ◌==◌, count_by};
+ghost use Rattle.std.specs.Prelude.{◌≡◌, ◌<◌, count_by};
 ghost use Rattle.std.specs.List.{list_any};
 ghost use Rattle.sdd_lang.specs.All.{D, T, dm_no, numbers_to, tm_no};
+ghost use Rattle.sdd_lang.specs.base.Sites.{same_site};
 ghost use Rattle.sdd_script.specs.Redeclaring.{is_redeclare, turned_by, is_down, some_down, may_redeclare, may_follow};
 
-use sdd_lang::{Catalogue, Event, Site};
+use sdd_lang::{Catalogue, DmNo, Event, Site, TmNo};
 
 fn is_redeclare(event: Event) -> bool
     ensures { result ≡ is_redeclare event }
@@ -18,68 +19,59 @@ fn redeclares(events: &[Event]) -> usize
     events.iter().filter(|event| is_redeclare(**event)).count()
 }
 
-/// Whether the transaction module with the number is down after an event, where it was so before or
-/// not.
-fn tm_turned(tm: u32, event: Event, down: bool) -> bool
-    ensures { result ≡ turned_by (T (tm_no tm)) event down }
+fn is_same_site(one: Site, other: Site) -> bool
+    ensures { result ≡ same_site one other }
+{
+    match (one, other) {
+        (Site::U, Site::U) => true,
+        (Site::T(one), Site::T(other)) => one.0 == other.0,
+        (Site::D(one), Site::D(other)) => one.0 == other.0,
+        _ => false,
+    }
+}
+
+/// Whether the module is down after an event, where it was so before or not.
+fn turned_by(at: Site, event: Event, down: bool) -> bool
+    ensures { result ≡ turned_by at event down }
 {
     match event {
-        Event::Down(Site::T(other)) => down || u32::from(other.0) == tm,
-        Event::Up(Site::T(other)) => down && u32::from(other.0) != tm,
+        Event::Down(module) => is_same_site(module, at) || down,
+        Event::Up(module) => !is_same_site(module, at) && down,
         _ => down,
     }
 }
 
-/// The same of a data module.
-fn dm_turned(dm: u32, event: Event, down: bool) -> bool
-    ensures { result ≡ turned_by (D (dm_no dm)) event down }
-{
-    match event {
-        Event::Down(Site::D(other)) => down || u32::from(other.0) == dm,
-        Event::Up(Site::D(other)) => down && u32::from(other.0) != dm,
-        _ => down,
-    }
-}
-
-fn tm_is_down(tm: u32, events: &[Event]) -> bool
-    ensures { result ≡ is_down (T (tm_no tm)) events.now }
+/// Whether the module is down after the events.
+fn is_down(at: Site, events: &[Event]) -> bool
+    ensures { result ≡ is_down at events.now }
 {
     events
         .iter()
-        .fold(false, |down, event| tm_turned(tm, *event, down))
+        .fold(false, |down, event| turned_by(at, *event, down))
 }
 
-fn dm_is_down(dm: u32, events: &[Event]) -> bool
-    ensures { result ≡ is_down (D (dm_no dm)) events.now }
+/// Whether one of so many transaction modules is down after the events.
+fn some_tm_down(count: u8, events: &[Event]) -> bool
+    requires { count < 255 }
+    ensures { result ≡ list_any (λ n. is_down (T (tm_no n)) events.now) (numbers_to count) }
 {
-    events
-        .iter()
-        .fold(false, |down, event| dm_turned(dm, *event, down))
-}
-
-/// Whether one of the transaction modules is down after the events.
-fn some_tm_down(catalogue: &Catalogue, events: &[Event]) -> bool
-    ensures { result
-        ≡ list_any (λ n. is_down (T (tm_no n)) events.now) (numbers_to catalogue.now.tms) }
-{
-    catalogue.law_is_sound();
-    (1..catalogue.tms() + 1).any(|tm| tm_is_down(tm, events))
+    (1..count + 1).any(|tm| is_down(Site::T(TmNo(tm)), events))
 }
 
 /// The same of the data modules.
-fn some_dm_down(catalogue: &Catalogue, events: &[Event]) -> bool
-    ensures { result
-        ≡ list_any (λ n. is_down (D (dm_no n)) events.now) (numbers_to catalogue.now.dms) }
+fn some_dm_down(count: u8, events: &[Event]) -> bool
+    requires { count < 255 }
+    ensures { result ≡ list_any (λ n. is_down (D (dm_no n)) events.now) (numbers_to count) }
 {
-    catalogue.law_is_sound();
-    (1..catalogue.dms() + 1).any(|dm| dm_is_down(dm, events))
+    (1..count + 1).any(|dm| is_down(Site::D(DmNo(dm)), events))
 }
 
 /// Whether a module of the catalogue is down after the events.
 fn some_down(catalogue: &Catalogue, events: &[Event]) -> bool
     ensures { result ≡ some_down catalogue.now events.now }
 {
-    some_tm_down(catalogue, events) || some_dm_down(catalogue, events)
+    catalogue.law_is_sound();
+    some_tm_down(catalogue.tms() as u8, events) || some_dm_down(catalogue.dms() as u8, events)
 }
 
 /// Whether the event may stand after these, where there are so many lists: a `redeclare` needs a

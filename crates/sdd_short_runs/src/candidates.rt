@@ -1,8 +1,7 @@
 //! Short runs that may be like no serial one, in the order in which they are tried.
 use crate::near::{Near, may_run_beside};
-use crate::places::Places;
 use sdd_lang::NoMemory;
-use sdd_robust::{Member, may_miss, reads_from};
+use sdd_robust::{Member, PlaceSet, may_miss, reads_from};
 use sdd_robust_laws::Access;
 use std::alloc::Global;
 
@@ -18,15 +17,15 @@ pub(crate) struct Candidate<'a> {
 #[derive(Drop)]
 struct MissedRead<'a> {
     read: &'a Access,
-    missing: Places,
+    missing: PlaceSet,
 }
 
 /// Those that may be the last of a path, and those that conflict with one of them and may run beside
 /// the pivot.
 #[derive(Drop)]
 struct Last {
-    ends: Places,
-    before: Places,
+    ends: PlaceSet,
+    before: PlaceSet,
 }
 
 /// The candidates of one pivot that are found, no more than so many.
@@ -40,7 +39,7 @@ struct Search<'a> {
 }
 
 /// Whether the transaction at a place may run while the pivot does, and both commit.
-fn is_beside(near: &Near, pivot: &Member, place: u32) -> bool {
+fn is_beside(near: &Near, pivot: &Member, place: usize) -> bool {
     match near.at(place) {
         Some(other) => may_run_beside(pivot, other),
         None => false,
@@ -48,7 +47,12 @@ fn is_beside(near: &Near, pivot: &Member, place: u32) -> bool {
 }
 
 /// Those that conflict with the pivot and may run beside it, by their places.
-fn beside(alloc: Global, near: &Near, pivot: &Member, place: u32) -> Result<Vec<u32>, NoMemory> {
+fn beside(
+    alloc: Global,
+    near: &Near,
+    pivot: &Member,
+    place: usize,
+) -> Result<Vec<usize>, NoMemory> {
     match near.conflicting_of(place) {
         Some(conflicting) => beside_of(alloc, near, pivot, conflicting),
         None => Ok(Vec::new(alloc)),
@@ -60,8 +64,8 @@ fn beside_of(
     alloc: Global,
     near: &Near,
     pivot: &Member,
-    others: &Places,
-) -> Result<Vec<u32>, NoMemory> {
+    others: &PlaceSet,
+) -> Result<Vec<usize>, NoMemory> {
     let mut beside = Vec::new(alloc);
     for place in &others.list(alloc)? {
         if is_beside(near, pivot, *place) {
@@ -72,7 +76,7 @@ fn beside_of(
 }
 
 /// Whether the transaction at a place may miss a change of the pivot, where that reads by this access.
-fn may_miss_at(near: &Near, place: u32, pivot: &Member, read: &Access) -> bool {
+fn may_miss_at(near: &Near, place: usize, pivot: &Member, read: &Access) -> bool {
     match near.at(place) {
         Some(other) => may_miss(other.accesses.as_slice(), pivot.accesses.as_slice(), read),
         None => false,
@@ -83,11 +87,11 @@ fn may_miss_at(near: &Near, place: u32, pivot: &Member, read: &Access) -> bool {
 fn missing_by(
     alloc: Global,
     near: &Near,
-    beside: &[u32],
+    beside: &[usize],
     pivot: &Member,
     read: &Access,
-) -> Result<Places, NoMemory> {
-    let mut missing = Places::new(alloc, near.all.len())?;
+) -> Result<PlaceSet, NoMemory> {
+    let mut missing = PlaceSet::new(alloc, near.all.len())?;
     for place in beside {
         if may_miss_at(near, *place, pivot, read) {
             missing.add(*place);
@@ -100,7 +104,7 @@ fn missing_by(
 fn missed_reads<'a>(
     alloc: Global,
     near: &Near,
-    beside: &[u32],
+    beside: &[usize],
     pivot: &'a Member,
 ) -> Result<Vec<MissedRead<'a>>, NoMemory> {
     let mut reads = Vec::new(alloc);
@@ -122,13 +126,13 @@ fn last_after(
     near: &Near,
     reads: &[MissedRead],
     first: &Member,
-) -> Result<Option<Places>, NoMemory> {
+) -> Result<Option<PlaceSet>, NoMemory> {
     let mut last = None;
     for missed in reads {
         if reads_from(missed.read, first.accesses.as_slice()) {
             let mut ends = match last {
                 Some(ends) => ends,
-                None => Places::new(alloc, near.all.len())?,
+                None => PlaceSet::new(alloc, near.all.len())?,
             };
             ends.add_all(&missed.missing);
             last = Some(ends);
@@ -138,8 +142,12 @@ fn last_after(
 }
 
 /// Those that conflict with one of these.
-fn conflicting_with_one(alloc: Global, near: &mut Near, ends: &Places) -> Result<Places, NoMemory> {
-    let mut found = Places::new(alloc, near.all.len())?;
+fn conflicting_with_one(
+    alloc: Global,
+    near: &mut Near,
+    ends: &PlaceSet,
+) -> Result<PlaceSet, NoMemory> {
+    let mut found = PlaceSet::new(alloc, near.all.len())?;
     for end in &ends.list(alloc)? {
         near.learn(*end)?;
         match near.conflicting_of(*end) {
@@ -155,10 +163,10 @@ fn before(
     alloc: Global,
     near: &mut Near,
     pivot: &Member,
-    ends: &Places,
-) -> Result<Places, NoMemory> {
+    ends: &PlaceSet,
+) -> Result<PlaceSet, NoMemory> {
     let conflicting = conflicting_with_one(alloc, near, ends)?;
-    let mut before = Places::new(alloc, near.all.len())?;
+    let mut before = PlaceSet::new(alloc, near.all.len())?;
     for place in &beside_of(alloc, near, pivot, &conflicting)? {
         before.add(*place);
     }
@@ -171,7 +179,7 @@ impl<'a> Search<'a> {
     }
 
     /// Adds a path, if there is room.
-    fn add(&mut self, near: &Near<'a>, path: &[u32]) -> Result<(), NoMemory> {
+    fn add(&mut self, near: &Near<'a>, path: &[usize]) -> Result<(), NoMemory> {
         if self.is_full() {
             return Ok(());
         }
@@ -193,8 +201,8 @@ impl<'a> Search<'a> {
     fn add_ends(
         &mut self,
         near: &Near<'a>,
-        begun: &[u32],
-        from: u32,
+        begun: &[usize],
+        from: usize,
         last: &Last,
     ) -> Result<(), NoMemory> {
         for end in &near.conflicting_among(from, &last.ends)? {
@@ -205,7 +213,7 @@ impl<'a> Search<'a> {
         Ok(())
     }
 
-    fn add_end(&mut self, near: &Near<'a>, begun: &[u32], end: u32) -> Result<(), NoMemory> {
+    fn add_end(&mut self, near: &Near<'a>, begun: &[usize], end: usize) -> Result<(), NoMemory> {
         let mut path = Vec::with_capacity(self.alloc, begun.len())?;
         path.extend_from_slice(begun)?;
         path.push(end)?;
@@ -213,7 +221,12 @@ impl<'a> Search<'a> {
     }
 
     /// Adds the paths of three from this first one.
-    fn add_threes(&mut self, near: &mut Near<'a>, first: u32, last: &Last) -> Result<(), NoMemory> {
+    fn add_threes(
+        &mut self,
+        near: &mut Near<'a>,
+        first: usize,
+        last: &Last,
+    ) -> Result<(), NoMemory> {
         for second in &near.conflicting_among(first, &last.before)? {
             if !self.is_full() && *second != first {
                 near.learn(*second)?;
@@ -224,7 +237,12 @@ impl<'a> Search<'a> {
     }
 
     /// Adds the paths that begin with one and end with one that may be the last.
-    fn add_paths(&mut self, near: &mut Near<'a>, first: u32, last: &Last) -> Result<(), NoMemory> {
+    fn add_paths(
+        &mut self,
+        near: &mut Near<'a>,
+        first: usize,
+        last: &Last,
+    ) -> Result<(), NoMemory> {
         near.learn(first)?;
         if self.length > 2 {
             return self.add_threes(near, first, last);
@@ -241,7 +259,7 @@ impl<'a> Search<'a> {
         &mut self,
         near: &mut Near<'a>,
         reads: &[MissedRead],
-        first: u32,
+        first: usize,
         known: &mut Vec<Last>,
     ) -> Result<(), NoMemory> {
         if self.is_full() {
@@ -269,7 +287,7 @@ impl<'a> Search<'a> {
 pub(crate) fn candidates_of<'a>(
     alloc: Global,
     near: &mut Near<'a>,
-    pivot: u32,
+    pivot: usize,
     length: usize,
     most: usize,
 ) -> Result<Vec<Candidate<'a>>, NoMemory> {
@@ -289,7 +307,7 @@ pub(crate) fn candidates_of<'a>(
 fn candidates_around<'a>(
     alloc: Global,
     near: &mut Near<'a>,
-    place: u32,
+    place: usize,
     pivot: &'a Member,
     length: usize,
     most: usize,
@@ -317,7 +335,7 @@ fn place_of(
     near: &mut Near,
     pivot: &Member,
     known: &mut Vec<Last>,
-    ends: Places,
+    ends: PlaceSet,
 ) -> Result<usize, NoMemory> {
     match known.iter().position(|last| last.ends.is_same(&ends)) {
         Some(at) => Ok(at),

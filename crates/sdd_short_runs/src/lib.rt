@@ -15,6 +15,5 @@ mod finding;
 mod near;
 mod orders;
 mod pairs;
-mod places;
 
 pub use finding::{ShortRun, find_counterexample};

@@ -1,9 +1,8 @@
 //! Which transactions of a workload conflict.
 ghost use Rattle.std.specs.Prelude.{◌≡◌, IfOk};
 
-use crate::places::Places;
 use sdd_lang::NoMemory;
-use sdd_robust::{Changes, Member, are_apart, conflict};
+use sdd_robust::{Changes, Member, PlaceSet, are_apart, conflict};
 use std::alloc::Global;
 
 /// Transactions, with what is known of each two of them so far. They are told by their places among
@@ -14,7 +13,7 @@ pub(crate) struct Near<'a> {
     pub all: &'a [Member],
     pub changes: Changes<'a>,
     /// Of each those with which it conflicts; None until it is asked for.
-    conflicting: Vec<Option<Places>>,
+    conflicting: Vec<Option<PlaceSet>>,
 }
 
 /// Whether the transactions conflict.
@@ -28,19 +27,19 @@ pub(crate) fn may_run_beside(pivot: &Member, other: &Member) -> bool {
 }
 
 /// The places of those with which one conflicts.
-fn conflicting_with(alloc: Global, all: &[Member], one: &Member) -> Result<Places, NoMemory> {
-    let mut places = Places::new(alloc, all.len())?;
-    let mut place: u32 = 0;
-    for other in all {
+fn conflicting_with(alloc: Global, all: &[Member], one: &Member) -> Result<PlaceSet, NoMemory> {
+    let mut places = PlaceSet::new(alloc, all.len())?;
+    for (place, other) in all.iter().enumerate() {
         if do_conflict(one, other) {
             places.add(place);
         }
-        place = place.saturating_add(1);
     }
     Ok(places)
 }
 
 impl<'a> Near<'a> {
+    /// Of no two it is known whether they conflict. Costs what `Changes::of` costs, and memory for a
+    /// place for each.
     pub fn new(alloc: Global, all: &'a [Member]) -> Result<Near<'a>, NoMemory>
         ensures { IfOk result (λ near. near.changes ≡ all.now) }
     {
@@ -58,19 +57,18 @@ impl<'a> Near<'a> {
     }
 
     /// How many transactions there are.
-    pub fn count(&self) -> u32 {
-        self.all.len().min(u32::MAX as usize) as u32
+    pub fn count(&self) -> usize {
+        self.all.len()
     }
 
     /// The transaction at a place.
-    pub fn at(&self, place: u32) -> Option<&'a Member> {
-        self.all.get(place as usize)
+    pub fn at(&self, place: usize) -> Option<&'a Member> {
+        self.all.get(place)
     }
 
     /// Finds with which transactions one conflicts, where that isn't known yet. Costs a test for each
     /// transaction.
-    pub fn learn(&mut self, place: u32) -> Result<(), NoMemory> {
-        let at = place as usize;
+    pub fn learn(&mut self, at: usize) -> Result<(), NoMemory> {
         if at >= self.all.len() || at >= self.conflicting.len() {
             return Ok(());
         }
@@ -81,8 +79,8 @@ impl<'a> Near<'a> {
     }
 
     /// Those with which one conflicts, where that is known.
-    pub fn conflicting_of(&self, place: u32) -> Option<&Places> {
-        match self.conflicting.get(place as usize) {
+    pub fn conflicting_of(&self, place: usize) -> Option<&PlaceSet> {
+        match self.conflicting.get(place) {
             Some(Some(places)) => Some(places),
             _ => None,
         }
@@ -90,7 +88,11 @@ impl<'a> Near<'a> {
 
     /// Those of a set with which one conflicts, ascending; none where that isn't known. Costs a step for
     /// each word of the set.
-    pub fn conflicting_among(&self, place: u32, others: &Places) -> Result<Vec<u32>, NoMemory> {
+    pub fn conflicting_among(
+        &self,
+        place: usize,
+        others: &PlaceSet,
+    ) -> Result<Vec<usize>, NoMemory> {
         match self.conflicting_of(place) {
             Some(places) => places.common(self.alloc, others),
             None => Ok(Vec::new(self.alloc)),

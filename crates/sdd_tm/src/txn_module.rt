@@ -127,7 +127,7 @@ impl<'a> TxnModule<'a> {
         class: ClassNo,
     ) -> Result<Outcome, NoMemory>
         requires lives { IsTrue self.old.live }
-        requires represents { (setting : Setting) × (bases : Bases) × (log : Log)
+        requires queues { (setting : Setting) × (bases : Bases) × (log : Log)
             × Queues self.old setting log × FitsSubmit setting bases log number.0 txn.now
             × (class.0 ≡ class_for (current_era setting log).catalogue txn.now) }
         ensures law { IfOk result (λ outcome. (setting : Setting) (bases : Bases) (log : Log)
@@ -149,7 +149,7 @@ impl<'a> TxnModule<'a> {
     /// returns what these send and record. Out of memory it takes nothing more.
     pub fn resume(&mut self) -> Result<Outcome, NoMemory>
         requires lives { IsTrue self.old.live }
-        requires represents { (setting : Setting) × (bases : Bases) × (log : Log)
+        requires queues { (setting : Setting) × (bases : Bases) × (log : Log)
             × Queues self.old setting log × FitsSite setting bases log }
         ensures law { IfOk result (λ outcome. (setting : Setting) (bases : Bases) (log : Log)
             → Queues self.old setting log → FitsSite setting bases log
@@ -169,7 +169,7 @@ impl<'a> TxnModule<'a> {
     /// Lets time pass, whether the module is down or not. Takes no memory.
     pub fn tick(&mut self, n: u32)
         requires lives { IsTrue self.old.live }
-        requires represents { (setting : Setting) × (bases : Bases) × (log : Log)
+        requires queues { (setting : Setting) × (bases : Bases) × (log : Log)
             × Queues self.old setting log × FitsSite setting bases log }
         ensures law { (setting : Setting) (log : Log)
             → Represents self.old setting log → Represents self.new setting (Ticked n ∷ log) }

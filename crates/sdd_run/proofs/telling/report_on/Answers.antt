@@ -16,6 +16,7 @@ returns c =
     of_ok c.report_pages.result _ _ c.report_pages.ensures (λ text printed given log s homes.
     printed
     ∙ ap text_of (report_is given log c.whole-catalogue.result.now c.transactions.result.now c.as_slice-history.result.now
-    c.as_slice.result.now c.as_slice-2.result.now c.as_slice-3.result.now homes (sym (c.whole-catalogue.ensures given log s.calm)) (c.transactions.ensures given log s.calm)
+    c.as_slice.result.now c.as_slice-2.result.now c.as_slice-3.result.now homes
+    (sym (c.whole-catalogue.ensures given log s.calm)) (c.transactions.ensures given log s.calm)
     (c.as_slice-history.ensures ∙ c.history.ensures given log s.calm) (c.as_slice.ensures.value ∙ c.in_ok-order.ensures.order)
     (c.as_slice-2.ensures.value ∙ c.in_ok-left.ensures given log s) (c.as_slice-3.ensures.value ∙ c.in_ok-copies.ensures given log s)))

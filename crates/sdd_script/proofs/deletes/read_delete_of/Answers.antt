@@ -12,5 +12,6 @@ returns-in_err-conds c =
 pub returns : goal.returns
 returns c =
     let found =
-    delete_short (rel_no c.args.rel) (conditions_of c.args.catalogue.now (Some c.args.rel ∷ []) c.args.words.now) c.in_ok-conds.conds.items c.in_ok-conds.ensures in
+    delete_short (rel_no c.args.rel) (conditions_of c.args.catalogue.now (Some c.args.rel ∷ []) c.args.words.now)
+    c.in_ok-conds.conds.items c.in_ok-conds.ensures in
     grind (arith, found)

@@ -9,7 +9,7 @@ words-preserved c =
     taken_more c.self.inside.words.items c.args.others.now c.words.self-inside.words.items c.args.queue.now.items c.words.queue.items
     c.take_word.new.queue.items c.words.at c.index-word.result.now c.word-other.result c.in_ok-self-inside.field-0 c.words.invariant low
     (c.index-word.ensures ∙ get_or_default c.words.self-inside.words.items c.words.at c.index-word.result.now 0 low) c.word-other.ensures
-    c.in_ok-self-inside.ensures.rest c.in_ok-self-inside.ensures.kept c.in_ok-self-inside.ensures.queued
+    c.in_ok-self-inside.ensures.rest c.in_ok-self-inside.ensures.queued
 
 pub returns : goal.returns
 returns c = λ _.

@@ -5,7 +5,7 @@ use Rattle.sdd_tm.proofs.txn_module.TxnModule.queue_in_class.Goals as goal
 
 pub returns-clause-law : goal.returns-clause-law
 returns-clause-law c =
-    let r = c.requires.represents in
+    let r = c.requires.queues in
     let number = c.args.number in
     let txn = c.args.txn.now in
     let old = c.args.self.now in

@@ -5,19 +5,19 @@ use Rattle.sdd_tm.proofs.txn_module.TxnModule.resume.Goals as goal
 
 pub every_place-places-requires : goal.every_place-places-requires
 every_place-places-requires c =
-    let r = c.requires.represents in
+    let r = c.requires.queues in
     subst (λ (k : Kept State). length k.value.classes < 2 ^ 32) (sym c.self.view_is) (few_queued c.args.self.now r.0 r.2 r.3)
 
 pub settle-requires-clause-calm : goal.settle-requires-clause-calm
 settle-requires-clause-calm c =
-    let r = c.requires.represents in
+    let r = c.requires.queues in
     let is : c.every_place-places.result ≡ every_place (length c.self.inside.parts.classes) = c.every_place-places.ensures in
     subst (λ (places : Places). IsCalm places.from places.end c.self.inside.parts) (sym is)
     (subst (λ (k : Kept State). IsCalm 0 (length k.value.classes) k.value) (sym c.self.view_is) (calm_up c.args.self.now r.0 r.2 r.3))
 
 pub settle-requires-clause-amid : goal.settle-requires-clause-amid
 settle-requires-clause-amid c =
-    let r = c.requires.represents in (
+    let r = c.requires.queues in (
       r.0,
       r.1,
       r.2,
