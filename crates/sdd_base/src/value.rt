@@ -9,6 +9,7 @@ use crate::exact::Exact;
 use crate::listed::Listed;
 use crate::no_memory::NoMemory;
 use crate::parcel::Parcel;
+use crate::shared::Shared;
 use crate::text::Text;
 use std::cmp::Ordering;
 use std::hash::{Hash, Hasher};
@@ -22,14 +23,21 @@ pub enum Value {
     Text(Text),
 }
 
-/// A row: the values of its columns, in their order.
-pub type Row = Listed<Value>;
+/// A row: the values of its columns, in their order. Copies of a row share them.
+pub type Row = Shared<Value>;
 
-/// Rows of one relation, or the rows that answer one query.
+/// Rows of one relation.
 pub type RowList = Listed<Row>;
 
+/// A row of an answer: the values of the columns that a query lists. It is made to be printed, and shares
+/// nothing.
+pub type AnswerRow = Listed<Value>;
+
+/// The rows that answer one query.
+pub type Answer = Listed<AnswerRow>;
+
 /// The answers of the queries of a transaction, in the order of its statements.
-pub type Answers = Listed<RowList>;
+pub type Answers = Listed<Answer>;
 
 impl PartialEq for Value {
     ghost eq = { eq_by_cmp value_cmp };

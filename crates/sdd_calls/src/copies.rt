@@ -41,5 +41,5 @@ fn rows_of(copy: &FragCopy) -> Result<Vec<Row>, NoMemory> {
 
 fn row(alloc: Global, value: i64) -> Result<Row, NoMemory> {
     let items = vec![in alloc; Value::Int(4), Value::Int(value)]?;
-    Ok(Row::from_vec(items))
+    Row::from_vec(items)
 }

@@ -10,8 +10,8 @@ use crate::matching::find_matching;
 use crate::own_conditions::own_conditions;
 use sdd_exec::{Parts, join};
 use sdd_lang::{
-    Catalogue, Change, Condition, Entries, Entry, Listed, NoMemory, Ref, RelNo, Row, RowList,
-    Source,
+    Answer, Catalogue, Change, Condition, Entries, Entry, Listed, NoMemory, Ref, RelNo, Row,
+    RowList, Source,
 };
 use sdd_plain::Plain;
 use std::alloc::Global;
@@ -130,7 +130,7 @@ impl<'a> Source for Changed<'a> {
         rels: &[RelNo],
         conds: &[Condition],
         room: usize,
-    ) -> Result<Option<RowList>, NoMemory> {
+    ) -> Result<Option<Answer>, NoMemory> {
         if self.changes.is_empty() {
             return self.base.query(alloc, before, out, rels, conds, room);
         }

@@ -4,7 +4,7 @@ ghost use Rattle.sdd_lang.specs.All.{distinct, row_cmp};
 ghost use Rattle.sdd_exec.specs.Rising.{to_last};
 ghost use Rattle.sdd_exec.specs.Choices.{NoRepeats};
 
-use sdd_lang::{NoMemory, Row, RowList};
+use sdd_lang::{Answer, AnswerRow, NoMemory};
 use std::alloc::Global;
 use std::cmp::Ordering;
 use std::collections::BTreeSet;
@@ -18,8 +18,8 @@ use std::mem;
 /// logarithmic step.
 #[derive(Drop)]
 pub struct Found {
-    rising: Vec<Row>,
-    set: BTreeSet<Row>,
+    rising: Vec<AnswerRow>,
+    set: BTreeSet<AnswerRow>,
     in_set: bool,
 }
 
@@ -48,7 +48,7 @@ impl Found {
 
     /// Adds a row, where it isn't there.
     #[tactic(auto, using(crate::proofs::Distinct::add_steps))]
-    pub fn add(&mut self, alloc: Global, row: Row) -> Result<(), NoMemory>
+    pub fn add(&mut self, alloc: Global, row: AnswerRow) -> Result<(), NoMemory>
         ensures { OnOk result (self.new ≡ insert_key row_cmp self.old row) }
     {
         if self.in_set {
@@ -92,7 +92,7 @@ impl Found {
     }
 
     /// The rows, in their order.
-    pub fn into_list(self, alloc: Global) -> Result<RowList, NoMemory>
+    pub fn into_list(self, alloc: Global) -> Result<Answer, NoMemory>
         ensures { IfOk result (λ list. list ≡ self) }
     {
         let Found {
@@ -103,12 +103,12 @@ impl Found {
         if in_set {
             return list_rows(alloc, set);
         }
-        Ok(RowList::from_vec(rising))
+        Ok(Answer::from_vec(rising))
     }
 }
 
 /// Compares a row with the last of some rows; `Greater` where there is none.
-fn to_last(rows: &[Row], row: &Row) -> Ordering
+fn to_last(rows: &[AnswerRow], row: &AnswerRow) -> Ordering
     ensures { result ≡ to_last rows.now row.now }
 {
     match rows.last() {
@@ -118,7 +118,7 @@ fn to_last(rows: &[Row], row: &Row) -> Ordering
 }
 
 /// The set of the rows.
-fn as_set(alloc: Global, rows: Vec<Row>) -> Result<BTreeSet<Row>, NoMemory>
+fn as_set(alloc: Global, rows: Vec<AnswerRow>) -> Result<BTreeSet<AnswerRow>, NoMemory>
     ensures { IfOk result (λ set. set.keys ≡ distinct rows.items) }
 {
     let mut set = BTreeSet::new(alloc);
@@ -129,7 +129,11 @@ fn as_set(alloc: Global, rows: Vec<Row>) -> Result<BTreeSet<Row>, NoMemory>
 }
 
 /// The set of the rows, which it takes, with one more.
-fn set_with(alloc: Global, rows: &mut Vec<Row>, row: Row) -> Result<BTreeSet<Row>, NoMemory>
+fn set_with(
+    alloc: Global,
+    rows: &mut Vec<AnswerRow>,
+    row: AnswerRow,
+) -> Result<BTreeSet<AnswerRow>, NoMemory>
     ensures set { IfOk result (λ set. set.keys ≡ insert_key row_cmp (distinct rows.old.items) row) }
     ensures rows { rows.new.items ≡ [] }
 {
@@ -140,8 +144,8 @@ fn set_with(alloc: Global, rows: &mut Vec<Row>, row: Row) -> Result<BTreeSet<Row
 }
 
 /// The rows of a set, in their order.
-fn list_rows(alloc: Global, rows: BTreeSet<Row>) -> Result<RowList, NoMemory>
+fn list_rows(alloc: Global, rows: BTreeSet<AnswerRow>) -> Result<Answer, NoMemory>
     ensures { IfOk result (λ list. list ≡ rows.keys) }
 {
-    Ok(RowList::from_vec(rows.into_iter().collect(alloc)?))
+    Ok(Answer::from_vec(rows.into_iter().collect(alloc)?))
 }

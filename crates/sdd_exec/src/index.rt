@@ -5,13 +5,13 @@ ghost use Rattle.std.specs.Option.{option_map_or};
 ghost use Rattle.sdd_lang.specs.All.{Value, rows_lent};
 ghost use Rattle.sdd_exec.specs.Choices as joins;
 
-use crate::tie::{Tie, key_of};
+use crate::tie::{Key, Tie, key_of};
 use sdd_lang::{Condition, NoMemory, Row, compare, value_in};
 use std::alloc::Global;
 use std::collections::HashMap;
 
 /// The places of rows by the values in some of their columns.
-pub type Index = HashMap<Row, Vec<usize>>;
+pub type Index = HashMap<Key, Vec<usize>>;
 
 /// Whether a row of a part meets the condition, where it names no other part.
 fn passes_one(part: usize, row: &Row, cond: &Condition) -> bool
@@ -41,7 +41,7 @@ fn passes(part: usize, row: &Row, conds: &[Condition]) -> bool
 /// name no other part.
 fn add_keyed(
     alloc: Global,
-    keyed: &mut Vec<(Row, usize)>,
+    keyed: &mut Vec<(Key, usize)>,
     part: usize,
     conds: &[Condition],
     ties: &[Tie],
@@ -67,7 +67,7 @@ fn keyed_places(
     part: usize,
     conds: &[Condition],
     ties: &[Tie],
-) -> Result<Vec<(Row, usize)>, NoMemory>
+) -> Result<Vec<(Key, usize)>, NoMemory>
     ensures { IfOk result (λ pairs. pairs.items ≡ joins.keyed part conds.now ties.now 0 (rows_lent rows.now)) }
 {
     let mut keyed = Vec::new(alloc);
@@ -112,7 +112,7 @@ pub fn untied_places(
 }
 
 /// Takes out the places with the key.
-fn take_places(alloc: Global, index: &mut Index, key: &Row) -> Vec<usize>
+fn take_places(alloc: Global, index: &mut Index, key: &Key) -> Vec<usize>
     ensures places { result.items ≡ option_map_or (λ v. v.items) (hash.get joins.same_row index.old key.now) [] }
     ensures others { (q : List Value) → hash.get joins.same_row index.new q ≡ cond (joins.same_row key.now q) None (hash.get joins.same_row index.old q) }
 {
@@ -123,7 +123,7 @@ fn take_places(alloc: Global, index: &mut Index, key: &Row) -> Vec<usize>
 }
 
 /// Adds a place to those with the key.
-fn add_place(alloc: Global, index: &mut Index, key: Row, place: usize) -> Result<(), NoMemory>
+fn add_place(alloc: Global, index: &mut Index, key: Key, place: usize) -> Result<(), NoMemory>
     ensures { IfOk result (λ _. (q : List Value) →
         option_map_or (λ v. v.items) (hash.get joins.same_row index.new q) []
         ≡ option_map_or (λ v. v.items) (hash.get joins.same_row index.old q) [] ++ joins.places ((key, place) ∷ []) q) }
@@ -136,7 +136,7 @@ fn add_place(alloc: Global, index: &mut Index, key: Row, place: usize) -> Result
 
 /// The places by their keys, which are moved.
 #[tactic(auto, using(crate::proofs::Steps::grouped_next))]
-pub fn group_by_key(alloc: Global, keyed: Vec<(Row, usize)>) -> Result<Index, NoMemory>
+pub fn group_by_key(alloc: Global, keyed: Vec<(Key, usize)>) -> Result<Index, NoMemory>
     ensures { IfOk result (λ m. (q : List Value) → option_map_or (λ v. v.items) (hash.get joins.same_row m q) [] ≡ joins.places keyed.items q) }
 {
     let mut index: Index = HashMap::new(alloc);
@@ -148,7 +148,7 @@ pub fn group_by_key(alloc: Global, keyed: Vec<(Row, usize)>) -> Result<Index, No
 }
 
 /// The places that the index has with a key.
-pub fn places_of<'a>(index: &'a Index, key: &Row) -> &'a [usize]
+pub fn places_of<'a>(index: &'a Index, key: &Key) -> &'a [usize]
     ensures { result.now ≡ option_map_or (λ v. v.items) (hash.get joins.same_row index.now key.now) [] }
 {
     match index.get(key) {

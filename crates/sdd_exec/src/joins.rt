@@ -15,7 +15,7 @@ use crate::index::{Index, index, places_of, untied_places};
 use crate::parts::Parts;
 use crate::sifting::sift;
 use crate::tie::{Tie, key_for, ties};
-use sdd_lang::{Condition, MAX_REPLY_ROWS, NoMemory, Ref, Row, RowList, meets_all, project};
+use sdd_lang::{Answer, Condition, MAX_REPLY_ROWS, NoMemory, Ref, Row, meets_all, project};
 use std::alloc::Global;
 
 /// How many choices, of one row from each part taken so far, a step may make before the join begins
@@ -363,7 +363,7 @@ pub fn join(
     out: &[Ref],
     conds: &[Condition],
     room: usize,
-) -> Result<Option<RowList>, NoMemory>
+) -> Result<Option<Answer>, NoMemory>
     ensures { IfOk result (λ rows. rows ≡ within room (distinct (projection out.now (selection conds.now (product parts.now))))) }
 {
     match answers_of_all(alloc, parts, conds, out, room)? {

@@ -12,7 +12,8 @@ use crate::found::Found;
 use crate::links::values_of;
 use crate::parts::Parts;
 use crate::plan::Node;
-use sdd_lang::{NoMemory, Ref, Row};
+use crate::tie::Key;
+use sdd_lang::{AnswerRow, NoMemory, Ref};
 use std::alloc::Global;
 use std::collections::HashSet;
 
@@ -24,19 +25,19 @@ const FREE_STATES: usize = 65_536;
 pub struct Explored {
     /// By the place of a node what choices of its parts, of which all that can come is found, have in
     /// its marks.
-    pub seen: Vec<HashSet<Row>>,
+    pub seen: Vec<HashSet<Key>>,
     /// By the place of a node what choices of its parts, of which no row of the answer comes, have in
     /// its linked columns.
-    pub dead: Vec<HashSet<Row>>,
+    pub dead: Vec<HashSet<Key>>,
     /// How many more of these may be remembered.
     pub free: usize,
     /// The answers, to ask for them quickly.
-    pub told: HashSet<Row>,
+    pub told: HashSet<AnswerRow>,
     pub found: Found,
 }
 
 /// An empty set for each of so many places.
-fn empty_sets(alloc: Global, places: usize) -> Result<Vec<HashSet<Row>>, NoMemory>
+fn empty_sets(alloc: Global, places: usize) -> Result<Vec<HashSet<Key>>, NoMemory>
     ensures { IfOk result (λ sets. (n : ℕ) (q : List Value) → option_map_or (λ set. contains joins.same_row set q) (slice_get sets.items n) false ≡ false) }
 {
     let mut sets = Vec::with_capacity(alloc, places)?;
@@ -123,7 +124,7 @@ pub fn is_dead(
 }
 
 /// Whether a choice of the node at a place was explored that has these values in its marks.
-fn is_seen(state: &Explored, place: usize, marks: &Row) -> bool
+fn is_seen(state: &Explored, place: usize, marks: &Key) -> bool
     ensures { result ≡ plans.is_seen state.now place marks.now }
 {
     match state.seen.get(place) {
@@ -153,7 +154,7 @@ pub fn is_known(
 }
 
 /// Adds a row to the set at a place.
-fn add_seen(seen: &mut Vec<HashSet<Row>>, place: usize, marks: Row) -> Result<(), NoMemory>
+fn add_seen(seen: &mut Vec<HashSet<Key>>, place: usize, marks: Key) -> Result<(), NoMemory>
     requires { place < length seen.now.items }
     ensures { IfOk result (λ _. (n : ℕ) (q : List Value) → option_map_or (λ set. contains joins.same_row set q) (slice_get seen.new.items n) false ≡ true
         → (option_map_or (λ set. contains joins.same_row set q) (slice_get seen.old.items n) false ≡ true) ⊎ ((n ≡ place) × (marks ≡ q))) }

@@ -5,7 +5,7 @@ ghost use Rattle.sdd_exec.specs.Sifting as sift;
 use crate::choice::value_at;
 use crate::parts::Parts;
 use crate::tie::part_of;
-use sdd_lang::{Condition, NoMemory, Ref, Row, copy_value};
+use sdd_lang::{Condition, Listed, NoMemory, Ref, Value, copy_value};
 use std::alloc::Global;
 
 /// Of two columns the one of a part that was taken, where the other isn't.
@@ -78,12 +78,12 @@ pub fn values_of(
     parts: &Parts,
     columns: &[Ref],
     choice: &[usize],
-) -> Result<Row, NoMemory>
+) -> Result<Listed<Value>, NoMemory>
     ensures { IfOk result (λ row. row ≡ sift.values_of parts.now columns.now choice.now) }
 {
     let mut values = Vec::with_capacity(alloc, columns.len())?;
     for at in columns {
         values.push(copy_value(value_at(parts, choice, *at))?)?;
     }
-    Ok(Row::from_vec(values))
+    Ok(Listed::from_vec(values))
 }

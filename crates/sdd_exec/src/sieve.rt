@@ -12,7 +12,8 @@ use crate::choice::{Choice, choice_with_place};
 use crate::found::Found;
 use crate::links::values_of;
 use crate::parts::Parts;
-use sdd_lang::{NoMemory, Ref, Row};
+use crate::tie::Key;
+use sdd_lang::{AnswerRow, NoMemory, Ref};
 use std::alloc::Global;
 use std::collections::HashMap;
 
@@ -29,7 +30,7 @@ pub struct Mesh {
 #[derive(Drop)]
 pub struct Sieve {
     pub kept: Vec<Choice>,
-    pub found: HashMap<Row, Found>,
+    pub found: HashMap<Key, Found>,
 }
 
 /// A sieve that keeps nothing.
@@ -44,7 +45,7 @@ pub fn no_choices(alloc: Global) -> Sieve
 }
 
 /// Takes out what was found with these links.
-fn take_found(alloc: Global, found: &mut HashMap<Row, Found>, links: &Row) -> Found
+fn take_found(alloc: Global, found: &mut HashMap<Key, Found>, links: &Key) -> Found
     ensures rows { result ≡ option_map_or (λ rows. rows) (hash.get joins.same_row found.old links.now) [] }
     ensures others { (q : List Value) → hash.get joins.same_row found.new q ≡ cond (joins.same_row links.now q) None (hash.get joins.same_row found.old q) }
 {
@@ -55,7 +56,7 @@ fn take_found(alloc: Global, found: &mut HashMap<Row, Found>, links: &Row) -> Fo
 }
 
 /// Adds a row to what was found; whether it is new.
-fn add_row(alloc: Global, rows: &mut Found, row: Row) -> Result<bool, NoMemory>
+fn add_row(alloc: Global, rows: &mut Found, row: AnswerRow) -> Result<bool, NoMemory>
     ensures rows { IfOk result (λ _. rows.new ≡ insert_key row_cmp rows.old row) }
     ensures there { IfOk result (λ new. new ≡ false → members.Has rows.old row) }
 {
@@ -67,9 +68,9 @@ fn add_row(alloc: Global, rows: &mut Found, row: Row) -> Result<bool, NoMemory>
 /// Adds what a choice has in the listed columns to what was found with its links; whether it is new.
 fn add_found(
     alloc: Global,
-    found: &mut HashMap<Row, Found>,
-    links: Row,
-    outs: Row,
+    found: &mut HashMap<Key, Found>,
+    links: Key,
+    outs: AnswerRow,
 ) -> Result<bool, NoMemory>
     ensures rows { IfOk result (λ _. (q : List Value) →
         option_map_or (λ rows. rows) (hash.get joins.same_row found.new q) []
@@ -84,7 +85,7 @@ fn add_found(
 }
 
 /// Whether more was found with these links than there is room for.
-fn is_full(sieve: &Sieve, links: &Row, room: usize) -> bool
+fn is_full(sieve: &Sieve, links: &Key, room: usize) -> bool
     ensures { IsTrue result → (room < length (sift.found_with sieve.now links.now)) × joins.NoRepeats (sift.found_with sieve.now links.now) }
 {
     match sieve.found.get(links) {

@@ -13,8 +13,8 @@ use crate::links::{links, outs};
 use crate::order::{best_part, with_part};
 use crate::parts::Parts;
 use crate::sieve::{Mesh, Sieve, is_full_for, no_choices, offer_each};
-use crate::tie::{Tie, key_for, key_of, part_of, ties};
-use sdd_lang::{Condition, NoMemory, Ref, Row};
+use crate::tie::{Key, Tie, key_for, key_of, part_of, ties};
+use sdd_lang::{Condition, NoMemory, Ref};
 use std::alloc::Global;
 
 /// What the choices of a group are told apart by.
@@ -64,7 +64,7 @@ fn pair_of(
     ties: &[Tie],
     part: usize,
     choice: &[usize],
-) -> Result<Option<(Row, usize)>, NoMemory>
+) -> Result<Option<(Key, usize)>, NoMemory>
     ensures { IfOk result (λ pair. pair ≡ sift.pair_of parts.now ties.now part choice.now) }
 {
     let place = place_at(choice, part);
@@ -82,7 +82,7 @@ fn pairs_of(
     ties: &[Tie],
     part: usize,
     choices: &[Choice],
-) -> Result<Vec<(Row, usize)>, NoMemory>
+) -> Result<Vec<(Key, usize)>, NoMemory>
     ensures { IfOk result (λ pairs. pairs.items ≡ sift.pairs_of parts.now ties.now part choices.now) }
 {
     let mut pairs = Vec::new(alloc);
@@ -133,7 +133,7 @@ fn offer_all(
     kept: &[Choice],
     part: usize,
     ties: &[Tie],
-    pairs: Vec<(Row, usize)>,
+    pairs: Vec<(Key, usize)>,
 ) -> Result<(), NoMemory>
     requires { sift.IsSieve parts.now mesh.now sieve.now }
     ensures { IfOk result (λ _. sift.Offered parts.now mesh.now sieve.old sieve.new (sift.extended_by parts.now part ties.now pairs.items kept.now)) }

@@ -8,8 +8,8 @@ use crate::matched::Matched;
 use crate::parts::Parts;
 use crate::snapshot::Snapshot;
 use sdd_lang::{
-    Catalogue, Condition, Entries, Entry, NoMemory, Parcel, Ref, RelNo, Row, RowList, Source,
-    Value, meets_all, value_in,
+    Answer, Catalogue, Condition, Entries, Entry, NoMemory, Parcel, Ref, RelNo, Row, Source, Value,
+    meets_all, value_in,
 };
 use std::alloc::Global;
 
@@ -116,7 +116,7 @@ impl Source for Shipped<'_> {
         rels: &[RelNo],
         conds: &[Condition],
         room: usize,
-    ) -> Result<Option<RowList>, NoMemory> {
+    ) -> Result<Option<Answer>, NoMemory> {
         let parts = parts(alloc, self.snap, before, rels)?;
         join(alloc, &parts, out, conds, room)
     }

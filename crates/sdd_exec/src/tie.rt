@@ -4,7 +4,7 @@ ghost use Rattle.sdd_exec.specs.Choices as joins;
 
 use crate::choice::value_at;
 use crate::parts::Parts;
-use sdd_lang::{Condition, NoMemory, Ref, Row, copy_value, value_in};
+use sdd_lang::{Condition, Listed, NoMemory, Ref, Row, Value, copy_value, value_in};
 use std::alloc::Global;
 
 /// A column of a part that is to equal a column of a part that was taken before it.
@@ -15,6 +15,9 @@ pub struct Tie {
     /// What the column must equal.
     pub to: Ref,
 }
+
+/// Values by which rows or choices are looked up. It is made to ask once, so it shares nothing.
+pub type Key = Listed<Value>;
 
 /// The part of a column, counted from 0.
 pub fn part_of(column: Ref) -> usize
@@ -72,14 +75,14 @@ pub fn ties(
 }
 
 /// The values of a row in the columns of its ties.
-pub fn key_of(alloc: Global, ties: &[Tie], row: &Row) -> Result<Row, NoMemory>
+pub fn key_of(alloc: Global, ties: &[Tie], row: &Row) -> Result<Key, NoMemory>
     ensures { IfOk result (λ key. key ≡ joins.key_of ties.now row.now) }
 {
     let mut key = Vec::with_capacity(alloc, ties.len())?;
     for tie in ties {
         key.push(copy_value(value_in(row, tie.column))?)?;
     }
-    Ok(Row::from_vec(key))
+    Ok(Key::from_vec(key))
 }
 
 /// The values which the ties demand where the other parts have the rows of a choice.
@@ -88,12 +91,12 @@ pub fn key_for(
     ties: &[Tie],
     parts: &Parts,
     choice: &[usize],
-) -> Result<Row, NoMemory>
+) -> Result<Key, NoMemory>
     ensures { IfOk result (λ key. key ≡ joins.key_for ties.now (joins.picked parts.now choice.now)) }
 {
     let mut key = Vec::with_capacity(alloc, ties.len())?;
     for tie in ties {
         key.push(copy_value(value_at(parts, choice, tie.to))?)?;
     }
-    Ok(Row::from_vec(key))
+    Ok(Key::from_vec(key))
 }

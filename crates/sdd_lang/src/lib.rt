@@ -45,12 +45,12 @@ pub use usage::{restrictions_of, uses};
 
 // What lies below, for the crates above.
 pub use sdd_base::{
-    Bytes, Change, Changes, ClassNo, Clock, Cond, Conds, DmNo, Event, Events, Failed, FileNo,
-    FragNo, Frags, Listed, MAX_ASSIGNMENTS, MAX_CATALOGUE_BYTES, MAX_CLASSES, MAX_CONDITIONS,
-    MAX_EVENTS, MAX_OUTPUT_COLUMNS, MAX_PLACE, MAX_READS, MAX_REPLY_ROWS, MAX_ROWS, MAX_STATEMENTS,
-    MAX_TICKS, MAX_TXNS, MAX_USES, MAX_WORKLOAD_BYTES, Name, NoMemory, Op, Pages, Parcel,
-    ReadError, RelNo, Reply, Restriction, Row, RowList, Shelf, Sink, Site, SureSink, Text, TmNo,
-    Ts, TxnNo, Use, Uses, Value, read_file, write_pages, write_text,
+    Answer, AnswerRow, Bytes, Change, Changes, ClassNo, Clock, Cond, Conds, DmNo, Event, Events,
+    Failed, FileNo, FragNo, Frags, Listed, MAX_ASSIGNMENTS, MAX_CATALOGUE_BYTES, MAX_CLASSES,
+    MAX_CONDITIONS, MAX_EVENTS, MAX_OUTPUT_COLUMNS, MAX_PLACE, MAX_READS, MAX_REPLY_ROWS, MAX_ROWS,
+    MAX_STATEMENTS, MAX_TICKS, MAX_TXNS, MAX_USES, MAX_WORKLOAD_BYTES, Name, NoMemory, Op, Pages,
+    Parcel, ReadError, RelNo, Reply, Restriction, Row, RowList, Shelf, Sink, Site, SureSink, Text,
+    TmNo, Ts, TxnNo, Use, Uses, Value, read_file, write_pages, write_text,
 };
 pub use sdd_catalog::{
     CatError, CatFault, CatRule, Catalogue, ClassPart, ClassParts, Column, ColumnPart, ColumnParts,

@@ -23,25 +23,26 @@ fn sum(old: Option<&Value>, by: &i64) -> Result<Option<Value>, NoMemory>
 }
 
 /// Puts the value into the column, where it is there.
-fn put(row: Row, column: u32, value: Value) -> Row
-    ensures { result ≡ slice_set row (column - 1) value }
+fn put(values: Vec<Value>, column: u32, value: Value) -> Vec<Value>
+    ensures { result.items ≡ slice_set values.items (column - 1) value }
 {
     let place = (column as usize).saturating_sub(1);
-    let mut values = row.into_vec();
+    let mut values = values;
     if place < values.len() {
         values[place] = value;
     }
-    Row::from_vec(values)
+    values
 }
 
-/// The row after one more assignment, or None where a sum leaves the range of a whole number.
-fn assign(old: &Row, row: Row, set: &Assign) -> Result<Option<Row>, NoMemory>
-    ensures { IfOk result (λ next. next ≡ assigned old.now row set.now) }
+/// The values of the row after one more assignment, or None where a sum leaves the range of a whole
+/// number.
+fn assign(old: &Row, values: Vec<Value>, set: &Assign) -> Result<Option<Vec<Value>>, NoMemory>
+    ensures { IfOk result (λ next. option_map (λ v. v.items) next ≡ assigned old.now values.items set.now) }
 {
     match set {
-        Assign::To { column, value } => Ok(Some(put(row, *column, value.copy()?))),
+        Assign::To { column, value } => Ok(Some(put(values, *column, value.copy()?))),
         Assign::Add { column, by } => match sum(value_in(old, *column), by)? {
-            Some(value) => Ok(Some(put(row, *column, value))),
+            Some(value) => Ok(Some(put(values, *column, value))),
             None => Ok(None),
         }
     }
@@ -52,12 +53,12 @@ fn assign(old: &Row, row: Row, set: &Assign) -> Result<Option<Row>, NoMemory>
 pub fn replace_columns(sets: &[Assign], old: &Row) -> Result<Option<Row>, NoMemory>
     ensures { IfOk result (λ row. row ≡ replaced sets.now old.now) }
 {
-    let mut row = old.copy()?;
+    let mut values = old.to_vec()?;
     'sets: for set in sets {
-        match assign(old, row, set)? {
-            Some(next) => row = next,
+        match assign(old, values, set)? {
+            Some(next) => values = next,
             None => return Ok(None),
         }
     }
-    Ok(Some(row))
+    Ok(Some(Row::from_vec(values)?))
 }

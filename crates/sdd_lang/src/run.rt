@@ -15,7 +15,7 @@ use crate::pending::Pending;
 use crate::source::Source;
 use crate::statement::Stmt;
 use crate::tuple::key_of;
-use sdd_base::{Answers, MAX_REPLY_ROWS, NoMemory, Parcel, RelNo, Reply, Row, RowList};
+use sdd_base::{Answer, Answers, MAX_REPLY_ROWS, NoMemory, Parcel, RelNo, Reply, Row};
 use sdd_catalog::Catalogue;
 use std::alloc::Global;
 use std::marker::Model;
@@ -25,7 +25,7 @@ use std::marker::Model;
 pub(crate) struct Run {
     // How many uses the statements have had.
     before: u32,
-    answers: Vec<RowList>,
+    answers: Vec<Answer>,
     // How many rows the answers may still get.
     room: usize,
     changes: Pending,

@@ -6,7 +6,7 @@ ghost use Rattle.sdd_lang.specs.Database.{Row, Database};
 ghost use Rattle.sdd_lang.specs.Source.{within, entries_of};
 
 use crate::condition::{Condition, Ref};
-use sdd_base::{Listed, NoMemory, RelNo, Row, RowList};
+use sdd_base::{Answer, Listed, NoMemory, RelNo, Row};
 use std::alloc::Global;
 
 /// A row with its key.
@@ -38,7 +38,7 @@ pub trait Source {
         rels: &[RelNo],
         conds: &[Condition],
         room: usize,
-    ) -> Result<Option<RowList>, NoMemory>
+    ) -> Result<Option<Answer>, NoMemory>
         ensures { IfOk result (λ rows. rows ≡ within room (found self.now before out.now rels.now conds.now)) };
 
     /// The rows that an update or delete works on, with their keys.

@@ -8,7 +8,7 @@ ghost use Rattle.sdd_lang.specs.Fits.{IsRelation};
 ghost use Rattle.sdd_lang.specs.Tuples.{held, may_join, rows_lent};
 
 use crate::condition::{Condition, Ref};
-use sdd_base::{NoMemory, Parcel, RelNo, Row, Value};
+use sdd_base::{AnswerRow, NoMemory, Parcel, RelNo, Row, Value};
 use sdd_catalog::Catalogue;
 use std::alloc::Global;
 use std::cmp::Ordering;
@@ -111,12 +111,12 @@ pub fn copy_value(value: Option<&Value>) -> Result<Value, NoMemory>
 }
 
 /// The listed columns of the tuple.
-pub fn project(alloc: Global, out: &[Ref], tuple: &[&Row]) -> Result<Row, NoMemory>
+pub fn project(alloc: Global, out: &[Ref], tuple: &[&Row]) -> Result<AnswerRow, NoMemory>
     ensures { IfOk result (λ row. row ≡ map (value_at (rows_lent tuple.now)) out.now) }
 {
     let mut values = Vec::with_capacity(alloc, out.len())?;
     'columns: for at in out {
         values.push(copy_value(value_at(tuple, *at))?)?;
     }
-    Ok(Row::from_vec(values))
+    Ok(AnswerRow::from_vec(values))
 }

@@ -8,8 +8,8 @@ use crate::naming::text;
 use crate::random::Random;
 use crate::statements::txn_of;
 use sdd_script::{
-    ClassLists, DmNo, Event, Events, Listed, NoMemory, RelNo, Row, Site, StartRows, TmNo, Txn,
-    TxnNo, Txns, Value, Workload,
+    ClassLists, DmNo, Event, Events, NoMemory, RelNo, Row, Site, StartRows, TmNo, Txn, TxnNo, Txns,
+    Value, Workload,
 };
 use std::alloc::Global;
 
@@ -19,7 +19,7 @@ fn account_row(alloc: Global, id: u32) -> Result<(RelNo, Row), NoMemory>
 {
     let owner = Value::Text(text(alloc, "o")?);
     let values = vec![in alloc; Value::Int(i64::from(id)), owner, Value::Int(100)]?;
-    Ok((RelNo(1), Listed::from_vec(values)))
+    Ok((RelNo(1), Row::from_vec(values)?))
 }
 
 /// Ten accounts.

@@ -5,7 +5,7 @@ ghost use Rattle.sdd_lang.specs.Source.{found_in};
 use crate::rows::Rows;
 use sdd_exec::join;
 use sdd_lang::{
-    Catalogue, Condition, Effect, Entries, Listed, NoMemory, Ref, RelNo, Reply, Row, RowList,
+    Answer, Catalogue, Condition, Effect, Entries, Listed, NoMemory, Ref, RelNo, Reply, Row,
     Source, Txn, effect_over,
 };
 use std::alloc::Global;
@@ -114,7 +114,7 @@ impl Source for Plain {
         rels: &[RelNo],
         conds: &[Condition],
         room: usize,
-    ) -> Result<Option<RowList>, NoMemory> {
+    ) -> Result<Option<Answer>, NoMemory> {
         let parts = self.rows.parts(alloc, rels, conds)?;
         join(alloc, &parts, out, conds, room)
     }

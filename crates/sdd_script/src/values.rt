@@ -11,7 +11,7 @@ ghost use Rattle.sdd_script.specs.Values.{is_of_kind, value_of, values_of, row_o
 use crate::fault::{LineError, WorkRule, must, require};
 use crate::few::keep_few;
 use crate::naming::{columns_of, kind_of_place, relation_of};
-use sdd_lang::{Catalogue, Column, Kind, Listed, NoMemory, RelNo, Row, Text, Value};
+use sdd_lang::{Catalogue, Column, Kind, NoMemory, RelNo, Row, Text, Value};
 use sdd_words::{Token, Tokens, is_text, number_in, text_of};
 use std::alloc::Global;
 
@@ -97,7 +97,7 @@ fn read_row_of(
 {
     let row = read_values(alloc, columns, words)?;
     must(WorkRule::WrongKind, row.len() == columns.len())?;
-    Ok((rel, Listed::from_vec(row)))
+    Ok((rel, Row::from_vec(row)?))
 }
 
 /// A relation and a row of it, whose values are counted when enough of them are read.

@@ -9,7 +9,7 @@ ghost use Rattle.sdd_wire.specs.Reading.{fault_in};
 use crate::fault::WireFault;
 use crate::source::Source;
 use crate::spelled::Spelled;
-use sdd_base::{Listed, NoMemory};
+use sdd_base::{Listed, NoMemory, Shared};
 use std::alloc::Global;
 
 impl<A: Spelled, B: Spelled> Spelled for (A, B) {
@@ -104,5 +104,25 @@ impl<T: Spelled> Spelled for Listed<T> {
     fn read(alloc: Global, source: &mut Source<'_>) -> Result<Self, WireFault> {
         let count = u64::read(alloc, source)?;
         Ok(Listed::from_vec(read_items(alloc, count, source)?))
+    }
+}
+
+/// A list that copies share is spelled as another one.
+impl<T: Spelled> Spelled for Shared<T> {
+    ghost spelling = { spelled_list T.spelling };
+
+    ghost reading = { list_at T.reading };
+
+    ghost fits = { FitsList T.fits };
+
+    fn put(&self, out: &mut Vec<u8>) -> Result<(), NoMemory> {
+        let items = self.as_slice();
+        (items.len() as u64).put(out)?;
+        put_items(out, items)
+    }
+
+    fn read(alloc: Global, source: &mut Source<'_>) -> Result<Self, WireFault> {
+        let count = u64::read(alloc, source)?;
+        Ok(Shared::from_vec(read_items(alloc, count, source)?)?)
     }
 }

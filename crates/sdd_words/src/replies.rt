@@ -3,13 +3,13 @@ ghost use Rattle.std.specs.Prelude.{◌≡◌, ◌++◌, OnOk, flat_map};
 ghost use Rattle.sdd_words.specs.Replies.{row_line, query_lines, queries_from, outcome_lines};
 
 use crate::write::{put, put_count, put_values};
-use sdd_base::{NoMemory, Reply, Row, RowList, Value};
+use sdd_base::{Answer, AnswerRow, NoMemory, Reply, Row, Value};
 
-fn put_row(out: &mut Vec<u8>, row: &Row) -> Result<(), NoMemory>
-    ensures { OnOk result (out.new.items ≡ out.old.items ++ row_line row.now) }
+fn put_row(out: &mut Vec<u8>, values: &[Value]) -> Result<(), NoMemory>
+    ensures { OnOk result (out.new.items ≡ out.old.items ++ row_line values.now) }
 {
     put(out, b"row")?;
-    put_values(out, row.as_slice())?;
+    put_values(out, values)?;
     out.push(b'\n')?;
     Ok(())
 }
@@ -20,13 +20,24 @@ pub fn put_rows(out: &mut Vec<u8>, rows: &[Row]) -> Result<(), NoMemory>
     ensures { OnOk result (out.new.items ≡ out.old.items ++ flat_map row_line rows.now) }
 {
     'rows: for row in rows {
-        put_row(out, row)?;
+        put_row(out, row.as_slice())?;
+    }
+    Ok(())
+}
+
+/// Puts the lines of an answer's rows.
+#[tactic(auto, using(crate::proofs::Written::item_written, crate::proofs::Written::items_written))]
+fn put_answer(out: &mut Vec<u8>, rows: &[AnswerRow]) -> Result<(), NoMemory>
+    ensures { OnOk result (out.new.items ≡ out.old.items ++ flat_map row_line rows.now) }
+{
+    'rows: for row in rows {
+        put_row(out, row.as_slice())?;
     }
     Ok(())
 }
 
 /// The answer of the query with this number.
-fn put_query(out: &mut Vec<u8>, number: usize, rows: &RowList) -> Result<(), NoMemory>
+fn put_query(out: &mut Vec<u8>, number: usize, rows: &Answer) -> Result<(), NoMemory>
     ensures { OnOk result (out.new.items ≡ out.old.items ++ query_lines number rows.now) }
 {
     put(out, b"query ")?;
@@ -34,11 +45,11 @@ fn put_query(out: &mut Vec<u8>, number: usize, rows: &RowList) -> Result<(), NoM
     put(out, b" ")?;
     put_count(out, rows.as_slice().len() as u64)?;
     put(out, b"\n")?;
-    put_rows(out, rows.as_slice())
+    put_answer(out, rows.as_slice())
 }
 
 #[tactic(auto, using(crate::proofs::Queries::queries_go_on, crate::proofs::Queries::queries_end))]
-fn put_queries(out: &mut Vec<u8>, answers: &[RowList]) -> Result<(), NoMemory>
+fn put_queries(out: &mut Vec<u8>, answers: &[Answer]) -> Result<(), NoMemory>
     ensures { OnOk result (out.new.items ≡ out.old.items ++ queries_from 1 answers.now) }
 {
     'queries: for (i, rows) in answers.iter().enumerate() {
@@ -69,7 +80,7 @@ fn room_for_value(value: &Value) -> usize {
     }
 }
 
-fn room_for_row(row: &Row) -> usize {
+fn room_for_row(row: &AnswerRow) -> usize {
     let mut room = ROW_ROOM;
     for value in row.as_slice() {
         room = room.saturating_add(room_for_value(value));
@@ -77,7 +88,7 @@ fn room_for_row(row: &Row) -> usize {
     room
 }
 
-fn room_for_rows(rows: &RowList) -> usize {
+fn room_for_rows(rows: &Answer) -> usize {
     let mut room = QUERY_ROOM;
     for row in rows.as_slice() {
         room = room.saturating_add(room_for_row(row));
