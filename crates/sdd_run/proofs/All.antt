@@ -153,18 +153,18 @@ pub use Rattle.sdd_script.proofs.WordCuts.{NonePasses}
 pub use Rattle.sdd_script.proofs.lang.catalog.Validity.{not_false}
 pub use Rattle.sdd_script.specs.All.{AreDistinct, FitsAssign, FitsTxn, HoldsValues, IsFrom1To, IsLink, IsSite, IsValid, IsValidEvent, IsValidRow, IsValidTxn, IsValue, Value, eras, extended, retired, submitted_by, tail_of, whole}
 pub use Rattle.sdd_script.specs.declared.workload.Workload.{Workload}
-pub use Rattle.sdd_world.proofs.Results.{of_ok}
-pub use Rattle.sdd_world.specs.AtSites.{standing_at}
-pub use Rattle.sdd_world.specs.Beginnings.{AllBegin, BeginsD, IsBegun, There}
-pub use Rattle.sdd_world.specs.Copies.{rows_left, table_of, tables_at, tables_of}
-pub use Rattle.sdd_world.specs.LastHomes.{AreAtLastHomes, all_at_last, last_home, pending_at_last}
-pub use Rattle.sdd_world.specs.Pending.{IsListed, commits, pending_as, pending_in, pending_of, status_at, submitted_at, unmet, wait_at, wait_for, waits_of, why_at, why_of, why_pending}
-pub use Rattle.sdd_world.specs.Schedules.{AreAllowed, lists_after, takes_rounds, with_events}
-pub use Rattle.sdd_world.specs.Represents.{EndsBy, Represents}
-pub use Rattle.sdd_world.specs.Standings.{standing_at_t, standing_at_u}
-pub use Rattle.sdd_world.specs.declared.schedule.ClassList.{ClassList}
-pub use Rattle.sdd_world.specs.declared.world.World.{World}
-pub use Rattle.std.proofs.Common.{All, Bool, Contains, IfOk, List, None, Option, Result, Some, [], ap, append-nil, append_assoc, arith, cond, count_by, drop, eq-eqb, eqb-true, false, filter, filter_map, find, flat_map, fold, if◌then◌else◌, inl, inr, is_none, is_some, le-leb, length, length-append, lt-ltb, map, min, nat_le, nat_lt, ne_eqb, not, option_map, position, refl, slice_get, slice_index_or as get_or, subst, suc, sym, take, take_all, true, zero, ℕ, ◌&&◌, ◌++◌, ◌+◌, ◌-◌, ◌<◌, ◌==◌, ◌∙◌, ◌∷◌, ◌≡◌, ◌≢◌, ◌≤◌, ◌⊎◌}
+pub use Rattle.sdd_schedule.proofs.world.Results.{of_ok}
+pub use Rattle.sdd_schedule.specs.world.AtSites.{standing_at}
+pub use Rattle.sdd_schedule.specs.world.Beginnings.{AllBegin, BeginsD, IsBegun, There}
+pub use Rattle.sdd_schedule.specs.world.Copies.{rows_left, table_of, tables_at, tables_of}
+pub use Rattle.sdd_schedule.specs.world.LastHomes.{AreAtLastHomes, all_at_last, last_home, pending_at_last}
+pub use Rattle.sdd_schedule.specs.world.Pending.{IsListed, commits, pending_as, pending_in, pending_of, status_at, submitted_at, unmet, wait_at, wait_for, waits_of, why_at, why_of, why_pending}
+pub use Rattle.sdd_schedule.specs.Schedules.{AreAllowed, lists_after, takes_rounds, with_events}
+pub use Rattle.sdd_schedule.specs.world.Represents.{EndsBy, Represents}
+pub use Rattle.sdd_schedule.specs.world.Standings.{standing_at_t, standing_at_u}
+pub use Rattle.sdd_schedule.specs.declared.schedule.ClassList.{ClassList}
+pub use Rattle.sdd_schedule.specs.world.declared.world.World.{World}
+pub use Rattle.std.proofs.Common.{All, Bool, Contains, IfOk, List, None, Option, Result, Some, [], ap, append-nil, append_assoc, arith, cond, count_by, drop, eq-eqb, eqb-true, false, filter, filter_map, find, flat_map, fold, if◌then◌else◌, inl, inr, is_none, is_some, le-leb, length, length-append, lt-ltb, map, min, nat_le, nat_lt, ne_eqb, not, option_map, position, refl, slice_get, slice_index_or as get_or, subst, suc, sym, take, take_all, true, zero, ℕ, ◌&&◌, ◌++◌, ◌+◌, ◌-◌, ◌<◌, ◌^◌, ◌==◌, ◌∙◌, ◌∷◌, ◌≡◌, ◌≢◌, ◌≤◌, ◌⊎◌}
 pub use Rattle.std.proofs.Math.Decide.{dec_le}
 pub use Rattle.std.proofs.Math.Seq.{take-append_seam}
 pub use Rattle.std.proofs.lemmas.Bool.{and_from as both, cases_Bool, cases_eq, cases_lt, false≢true, or_left, or_right}

@@ -1,7 +1,7 @@
 -- What a run begins with.
 use Rattle.sdd_run.proofs.All.{All-at, Catalogue, D, Entry, Event, Input, IsValid, IsValidTxn, List, MAX_DMS, MAX_TMS, Workload, [], ap, append-nil, append_assoc, arith, dm_no, first_input, get_or-map-range_with_len, input_of, rows_of, sym, whole_in, with_event, with_events, ℕ, ◌++◌, ◌-◌, ◌∙◌, ◌∷◌, ◌≡◌, ◌≤◌}
 use Rattle.sdd_run.proofs.Whole.{same_dms, txns_valid}
-use Rattle.sdd_world.specs.Represents.{IsSoundNetwork}
+use Rattle.sdd_schedule.specs.world.Represents.{IsSoundNetwork}
 
 -- what is given with the events of a schedule has them after its own
 pub with_events_is : (g : Input) (es : List Event) → with_events g es ≡ record g { events = g.events ++ es }

@@ -40,8 +40,9 @@ pub use Rattle.sdd_lists.proofs as class_lists
 pub use Rattle.sdd_report.proofs as report
 pub use Rattle.sdd_make.proofs as make
 pub use Rattle.sdd_progress.proofs as progress
-pub use Rattle.sdd_world.proofs as world
-pub use Rattle.sdd_world.proofs.attempts as attempts
-pub use Rattle.sdd_world.proofs.data_module as data_module
-pub use Rattle.sdd_world.proofs.txn_module as txn_module
-pub use Rattle.sdd_world.proofs.u_module as u_module
+pub use Rattle.sdd_schedule.proofs.world as world
+pub use Rattle.sdd_schedule.proofs as schedule
+pub use Rattle.sdd_schedule.proofs.world.attempts as attempts
+pub use Rattle.sdd_schedule.proofs.world.data_module as data_module
+pub use Rattle.sdd_schedule.proofs.world.txn_module as txn_module
+pub use Rattle.sdd_schedule.proofs.world.u_module as u_module

@@ -1,11 +1,11 @@
 -- A new world of a workload represents the empty log of what is given before its first event.
-use Rattle.sdd_run.proofs.All.{AllBegin, AreAllowed, AreTables, BeginsD, Catalogue, Class, ClassList, D, Entry, Era, Event, Input, IsBegun, IsGood, IsSoundCatalogue, IsValid, Kept, List, MAX_DMS, MAX_TMS, RelNo, Represents, Row, Some, State, There, Txn, Workload, World, [], ap, arith, classes_in, dm_no, era_of_list, eras, eras_in, eras_with_tables, first_input, get_or, map, refl, rows_of, slice_get, subst, sym, tail_of, whole_in, ◌-◌, ◌∙◌, ◌∷◌, ◌≡◌, ◌≤◌}
+use Rattle.sdd_run.proofs.All.{AllBegin, AreAllowed, AreTables, BeginsD, Catalogue, Class, ClassList, D, Entry, Era, Event, Input, IsBegun, IsGood, IsSoundCatalogue, IsValid, Kept, List, MAX_DMS, MAX_TMS, RelNo, Represents, Row, Some, State, There, Txn, Workload, World, [], ap, arith, classes_in, dm_no, era_of_list, eras, eras_in, eras_with_tables, first_input, get_or, length, map, refl, rows_of, slice_get, subst, sym, tail_of, whole_in, ◌-◌, ◌<◌, ◌^◌, ◌∙◌, ◌∷◌, ◌≡◌, ◌≤◌}
 use Rattle.sdd_run.proofs.Allowed.{HasLists, allowed}
 use Rattle.sdd_run.proofs.Beginning.{begins_sound, rows_given}
 use Rattle.sdd_run.proofs.Goods.{good_along, good_begun}
 use Rattle.sdd_run.proofs.Timely.{timely}
 use Rattle.sdd_run.proofs.Whole.{events_valid}
-use Rattle.sdd_world.specs.Represents as standing
+use Rattle.sdd_schedule.specs.world.Represents as standing
 
 abbrev with_table : Catalogue → List Entry → Era
 with_table cat table = record { catalogue = cat; table = table }
@@ -16,6 +16,10 @@ first_of_eras : (cat : Catalogue) (lists : List (List Class)) (tables : List (Li
 first_of_eras cat lists [] table none e = absurd (cc)
 first_of_eras cat [] (t ∷ tables) table none e = let p : t ≡ table = cc in ap (with_table cat) p
 first_of_eras cat (l ∷ lists) (t ∷ tables) table none e = let p : t ≡ table = cc in ap (with_table cat) p
+
+-- a valid workload has few events
+pub few_events : (cat : Catalogue) (work : Workload) → IsValid cat work → (events : List Event) → events ≡ work.events → length events < 2 ^ 32
+few_events cat work valid events same = let few = valid.few_events in omega (arith, few, ap length same)
 
 module _ (cat : Catalogue) (tables : List (List Entry)) (work : Workload) (sound : IsSoundCatalogue (whole_in cat work)) (valid : IsValid cat work)
     (tabled : AreTables cat work tables) where

@@ -5,8 +5,8 @@ use Rattle.sdd_obligations.specs.logs.Entries.{Log}
 use Rattle.sdd_obligations.specs.logs.Lawful.{IsTheLog}
 use Rattle.sdd_obligations.specs.protocol.declared.entry.Entry.{Entry}
 use Rattle.sdd_script.specs.declared.workload.Workload.{Workload}
-use Rattle.sdd_world.specs.Represents.{Represents}
-use Rattle.sdd_world.specs.declared.world.World.{World}
+use Rattle.sdd_schedule.specs.world.Represents.{Represents}
+use Rattle.sdd_schedule.specs.world.declared.world.World.{World}
 use Rattle.sdd_run.specs.Runs.{input_of}
 
 -- A world that has carried out all events of a workload: it represents the one log of the run.

@@ -7,7 +7,7 @@ ghost use Rattle.sdd_run.specs.Lent.{era_of_list};
 ghost use Rattle.sdd_run.specs.Runs.{eras_with_tables};
 
 use sdd_obligations::{Catalogue, NoMemory, Table, table};
-use sdd_world::ClassList;
+use sdd_schedule::ClassList;
 use std::alloc::Global;
 
 /// The protocol table of each catalogue.

@@ -9,8 +9,8 @@ use crate::telling::report_on;
 use sdd_lists::lists_of;
 use sdd_make::{summary_of, summary_text};
 use sdd_obligations::{Catalogue, Pages};
+use sdd_schedule::WorldEnd;
 use sdd_script::Workload;
-use sdd_world::WorldEnd;
 use std::alloc::Global;
 
 /// The text of the report on the run of a workload.

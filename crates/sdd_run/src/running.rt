@@ -8,8 +8,8 @@ ghost use Rattle.sdd_run.specs.Worlds.{IsRunOf};
 use crate::era_lists::{first_table, further};
 use sdd_lists::Lists;
 use sdd_obligations::{Catalogue, Table};
+use sdd_schedule::{Nobody, World, WorldEnd, carry_out, data_modules};
 use sdd_script::Workload;
-use sdd_world::{World, WorldEnd, carry_out, data_modules};
 use std::alloc::Global;
 
 /// The world of the real modules, begun with the rows of a workload, that has carried out its events
@@ -43,5 +43,5 @@ pub fn run_to_end<'a>(
     } = work;
     let modules = data_modules(alloc, whole, rows.as_slice())?;
     let world = World::new(alloc, whole, catalogue, first_table(tables), txns, modules)?;
-    carry_out(world, events.into_vec(), further)
+    carry_out(world, events.into_vec(), further, &mut Nobody)
 }

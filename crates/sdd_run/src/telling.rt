@@ -3,12 +3,12 @@ ghost use Rattle.std.specs.Prelude.{◌≡◌, IfOk};
 ghost use Rattle.sdd_obligations.specs.All.{Input, IsOrderable, Log, history};
 ghost use Rattle.sdd_report.specs.Report.{report_text as text_of};
 ghost use Rattle.sdd_run.specs.Reports.{report_of};
-ghost use Rattle.sdd_world.specs.LastHomes.{AreAtLastHomes};
-ghost use Rattle.sdd_world.specs.Represents.{Represents};
+ghost use Rattle.sdd_schedule.specs.world.LastHomes.{AreAtLastHomes};
+ghost use Rattle.sdd_schedule.specs.world.Represents.{Represents};
 
 use sdd_obligations::{NoMemory, Pages, serial_order};
 use sdd_report::{Report, report_pages};
-use sdd_world::World;
+use sdd_schedule::World;
 use std::alloc::Global;
 
 /// The text of the report on a world whose history has a serial order, and in which each pending

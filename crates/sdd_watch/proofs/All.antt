@@ -16,8 +16,8 @@ pub use Rattle.sdd_inside.specs.declared.moment.Moment.{Moment}
 pub use Rattle.sdd_inside.specs.declared.moment.PipeMoment.{PipeMoment}
 pub use Rattle.sdd_inside.specs.declared.moment.QueueMoment.{QueueMoment}
 pub use Rattle.sdd_inside.specs.declared.standing.Active.{Active}
-pub use Rattle.sdd_inside.specs.declared.standing.Head.TheVariants.{Waits}
 pub use Rattle.sdd_inside.specs.declared.standing.Head.{Head}
+pub use Rattle.sdd_inside.specs.declared.standing.Head.TheVariants.{Waits}
 pub use Rattle.sdd_inside.specs.declared.standing.Question.{Question}
 pub use Rattle.sdd_inside.specs.declared.standing.SiteState.{SiteState}
 pub use Rattle.sdd_obligations.proofs.ReadSent.{site_sym as same_back}
@@ -86,18 +86,18 @@ pub use Rattle.sdd_run.proofs.Beginning.{all_given}
 pub use Rattle.sdd_run.proofs.ErasWithTables.{first_era, some_table, tables_are}
 pub use Rattle.sdd_run.proofs.OneReport.{one_list_of_tables}
 pub use Rattle.sdd_run.proofs.Reported.{ended}
-pub use Rattle.sdd_run.proofs.Starting.{all_allowed, starts}
+pub use Rattle.sdd_run.proofs.Starting.{all_allowed, few_events, starts}
 pub use Rattle.sdd_run.proofs.Whole.{rows_start}
 pub use Rattle.sdd_run.proofs.attempts.Noting.{any_result as all_ok}
 pub use Rattle.sdd_run.proofs.data_module.Shown.{head_shown, met_is, waits_shown}
-pub use Rattle.sdd_run.proofs.progress.ErasOf.{marks_up as marks_above}
 pub use Rattle.sdd_run.proofs.progress.Handed.{link_there}
 pub use Rattle.sdd_run.proofs.progress.Lists.{none_at}
 pub use Rattle.sdd_run.proofs.progress.NothingDue.{none_at_data}
 pub use Rattle.sdd_run.proofs.progress.Still.{d_site, t_site}
 pub use Rattle.sdd_run.proofs.progress.lawful.Touched.{copy_module}
+pub use Rattle.sdd_run.proofs.schedule.EachEvent.{IsMarkedBetween, MarksNext, event_of, marked_between, marks_above, one_more_mark}
+pub use Rattle.sdd_run.proofs.schedule.GivenMore.{round_more, scheduled_more}
 pub use Rattle.sdd_run.proofs.txn_module.Queueing.{represents_queues}
-pub use Rattle.sdd_run.proofs.world.Carrying.{ends_from, first_allowed, first_one, lists_stay, next_list, no_rounds, with_first}
 pub use Rattle.sdd_run.proofs.world.Failing.{handed_on}
 pub use Rattle.sdd_run.proofs.world.HomesExist.{no_txn, txn_read}
 pub use Rattle.sdd_run.proofs.world.Lists.{kept_to}
@@ -115,6 +115,10 @@ pub use Rattle.sdd_run.specs.data_module.Waiting.{holder_at, holders_in, holders
 pub use Rattle.sdd_run.specs.exchange.Phases.{awaited_in}
 pub use Rattle.sdd_run.specs.exchange.declared.answer.Answer.{Answer}
 pub use Rattle.sdd_run.specs.report.declared.copies.CopyTable.{CopyTable}
+pub use Rattle.sdd_run.specs.schedule.Events.{IsToFollow}
+pub use Rattle.sdd_run.specs.schedule.Schedules.{AreAllowed, with_events}
+pub use Rattle.sdd_run.specs.schedule.declared.schedule.ClassList.{ClassList}
+pub use Rattle.sdd_run.specs.schedule.declared.turn.Turn.{Turn}
 pub use Rattle.sdd_run.specs.script.All.{IsValid}
 pub use Rattle.sdd_run.specs.script.declared.workload.Workload.{Workload}
 pub use Rattle.sdd_run.specs.txn_module.Represents.{Queues}
@@ -123,9 +127,7 @@ pub use Rattle.sdd_run.specs.world.Copies.{tables_of}
 pub use Rattle.sdd_run.specs.world.Modules.{AllRepresent, LivesD, LivesT}
 pub use Rattle.sdd_run.specs.world.Pending.{commits}
 pub use Rattle.sdd_run.specs.world.Represents.{Calm, EndsBy, Represents, Rounding, Settling, events_of}
-pub use Rattle.sdd_run.specs.world.Schedules.{AreAllowed, IsAllowed, lists_after, takes_rounds, with_events}
 pub use Rattle.sdd_run.specs.world.declared.ends.WorldEnd.{WorldEnd}
-pub use Rattle.sdd_run.specs.world.declared.schedule.ClassList.{ClassList}
 pub use Rattle.sdd_run.specs.world.declared.sites.Sites.{Sites}
 pub use Rattle.sdd_run.specs.world.declared.world.World.{World}
 pub use Rattle.sdd_watch.specs.Awaiting.{behind, number_for, purpose_of, purposed, purposed_above, up_to, waiting_on}
@@ -134,21 +136,20 @@ pub use Rattle.sdd_watch.specs.Keeping.{IsLineInOrder, active_of, head_in, quest
 pub use Rattle.sdd_watch.specs.Looking.{AreAside, ArePipesSeen, AreSeen, advanced, all_waiting, looks, messages_in, numbers_for, queue_in, queue_of, queues_if, says, says_one, seen_with}
 pub use Rattle.sdd_watch.specs.Moments.{all_pipes, at_event, came, link_moment, moment_of, number_through, passed_to, pipe_moment, pipes_at_module, queue_moment, queues_at, queues_from, queues_of, source, time_passed}
 pub use Rattle.sdd_watch.specs.Reaching.{given_to, is_between, is_touched, may_act, may_change_from, reach_of, reach_of_delivery}
-pub use Rattle.sdd_watch.specs.ScheduleSoFar.{IsReported, IsTextOf, Tells, TellsBetween, TellsRound, TellsSettled}
+pub use Rattle.sdd_watch.specs.ScheduleSoFar.{Foresees, Tells}
 pub use Rattle.sdd_watch.specs.States.{actives, head_by, phase_by, questions_to, report_head, reported_active, reported_attempt, reported_dm, reported_tm, says_applied, state_of, unapplied_of}
 pub use Rattle.sdd_watch.specs.Text.{IsInsideOf, change, inside_text, line_of}
 pub use Rattle.sdd_watch.specs.Watching.{AreCommits, AreDones, IsBetween, IsMark, IsOver, IsTellable, IsToTell, IsTurn, Knows, Watches, all_sites, arrived, arrived_on, changed_links, changed_pipes, foresee_act, foresee_take, foreseen_by, handed_over, is_changed_link, is_changed_pipe, is_done_at, is_on, is_still_link, is_still_pipe, is_taken, left_between, left_of, link_after, link_before, links_from, pipe_after, pipe_before, queues_by, seen_between, taken_at, watched_link, watched_links, watched_pipe, watched_pipes}
 pub use Rattle.sdd_watch.specs.declared.both.Both.{Both}
 pub use Rattle.sdd_watch.specs.declared.commits.Commits.{Commits}
 pub use Rattle.sdd_watch.specs.declared.dones.Dones.{Dones}
-pub use Rattle.sdd_watch.specs.declared.foreseen.Foreseen.TheVariants.{Something}
 pub use Rattle.sdd_watch.specs.declared.foreseen.Foreseen.{Foreseen}
-pub use Rattle.sdd_watch.specs.declared.reach.Reach.TheVariants.{Across, Along, Around, From, Nowhere}
+pub use Rattle.sdd_watch.specs.declared.foreseen.Foreseen.TheVariants.{Something}
 pub use Rattle.sdd_watch.specs.declared.reach.Reach.{Reach}
+pub use Rattle.sdd_watch.specs.declared.reach.Reach.TheVariants.{Across, Along, Around, From, Nowhere}
 pub use Rattle.sdd_watch.specs.declared.teller.Teller.{Teller}
-pub use Rattle.sdd_watch.specs.declared.waiting.Purpose.TheVariants.{Applied}
 pub use Rattle.sdd_watch.specs.declared.waiting.Purpose.{Purpose}
-pub use Rattle.sdd_watch.specs.declared.watch.Turn.{Turn}
+pub use Rattle.sdd_watch.specs.declared.waiting.Purpose.TheVariants.{Applied}
 pub use Rattle.sdd_watch.specs.declared.watch.Watch.{Watch}
 pub use Rattle.sdd_watch.specs.declared.watched_link.Arrived.{Arrived}
 pub use Rattle.sdd_watch.specs.declared.watched_link.LinkSeen.{LinkSeen}
@@ -160,12 +161,12 @@ pub use Rattle.std.proofs.Math.Seq.{drop-append_seam, take-append_seam, take-tak
 pub use Rattle.std.proofs.lemmas.Bool.{and_parts, cases_Bool, cases_lt, lt-leb}
 pub use Rattle.std.proofs.lemmas.Int.{to_z-of_z}
 pub use Rattle.std.proofs.lemmas.Iterator.Adapters.{position_from-zero}
+pub use Rattle.std.proofs.lemmas.List.{drop-append-le, drop-take, drop_all, flat_map_more, get_or_default, get_or_past, length-map, map-append, take-append-le, take_more}
 pub use Rattle.std.proofs.lemmas.List.Concat.{flat_map-append}
 pub use Rattle.std.proofs.lemmas.List.Elements.{All-append, All-cons, All-filter, All-from_recursion, All-get_or, All-head, All-map, All-nil, All-tail, filter-append, filter_map-append}
 pub use Rattle.std.proofs.lemmas.List.Folds.{list_any-append, list_any_more}
 pub use Rattle.std.proofs.lemmas.List.FromFn.{map-range_with_len_more}
 pub use Rattle.std.proofs.lemmas.List.Sums.{fold-append}
-pub use Rattle.std.proofs.lemmas.List.{drop-append-le, drop-take, drop_all, flat_map_more, get_or_default, get_or_past, length-map, map-append, take-append-le, take_more}
 pub use Rattle.std.proofs.lemmas.Option.{slice_get-map}
 pub use Rattle.std.proofs.lemmas.Simd.{map-map}
 pub use Rattle.std.specs.BTreeMap.{get, is_at}

@@ -1,5 +1,5 @@
 -- What is reported before the first event, and of a whole run.
-use Rattle.sdd_watch.proofs.All.{AreAllowed, AreTables, Catalogue, ClassList, CopyTable, Event, Input, IsInsideOf, IsReported, IsSoundCatalogue, IsTextOf, IsValid, List, Represents, Teller, Tells, Txn, Watches, Workload, World, [], all_allowed, all_given, ap, arith, beginning, era_of_list, eras_in, eras_with_tables, first_input, length, map, refl, subst, tables_of, tail_of, whole_in, with_events, ℕ, ◌++◌, ◌<◌, ◌^◌, ◌∙◌, ◌≡◌}
+use Rattle.sdd_watch.proofs.All.{AreTables, Catalogue, CopyTable, Event, Input, IsInsideOf, List, Log, Represents, Teller, Tells, Txn, Watches, Workload, World, [], all_given, ap, beginning, first_input, input_of, subst, tables_of, with_events, ℕ, ◌++◌, ◌∙◌, ◌≡◌}
 use Rattle.sdd_watch.proofs.TextSoFar.{text_begins}
 use Rattle.sdd_obligations.specs.protocol.declared.entry.Entry.{Entry}
 
@@ -15,31 +15,20 @@ begins_report g t empty txns copies cat none same first text watches = record {
   watches = watches;
 }
 
--- Before the first event nothing is reported but the first line, and the events of the workload may come, one by one.
-pub record BeginsAll (cat : Catalogue) (tables : List (List Entry)) (work : Workload) (w : World) (events : List Event) (lists : List ClassList)
-    (t : Teller) : Type 0 where
-  pub reported : IsReported w (first_input cat tables work) [] t 1
-  pub allowed : AreAllowed (first_input cat tables work) events lists
-  pub few : length events < 2 ^ 32
-
-pub begins_all : (cat : Catalogue) (tables : List (List Entry)) (work : Workload) → IsSoundCatalogue (whole_in cat work) → IsValid cat work
-    → AreTables cat work tables → (w : World) (events : List Event) (lists : List ClassList) (t : Teller) → Represents w (first_input cat tables work) []
-    → events ≡ work.events → map era_of_list lists ≡ tail_of (eras_with_tables (eras_in cat work) tables) → Tells (first_input cat tables work) [] t
-    → BeginsAll cat tables work w events lists t
-begins_all cat tables work sound valid tabled w events lists t represents same left tells =
-    let few = valid.few_events in
-    record {
-      reported = record { represents = represents; tells = tells; place_is = refl };
-      allowed = all_allowed cat tables work sound valid tabled events lists same left;
-      few = omega (arith, few, ap length same);
-    }
-
 -- the text of all events of a workload is that of its run
 pub inside_of : (cat : Catalogue) (tables : List (List Entry)) (work : Workload) → AreTables cat work tables → (events : List Event) → events ≡ work.events
-    → (text : List ℕ) → IsTextOf (with_events (first_input cat tables work) events) text → IsInsideOf cat work text
-inside_of cat tables work tabled events same text h =
-    let whole = subst (λ g. IsTextOf g text) (ap (with_events (first_input cat tables work)) same ∙ all_given cat tables work) h in
+    → (w : World) (log : Log) (t : Teller) → Represents w (with_events (first_input cat tables work) events) log
+    → Tells (with_events (first_input cat tables work) events) log t → IsInsideOf cat work t.text.items
+inside_of cat tables work tabled events same w log t represents tells =
+    let all = ap (with_events (first_input cat tables work)) same ∙ all_given cat tables work in
+    let whole : Represents w (input_of cat tables work) log = subst (λ g. Represents w g log) all represents in
+    let told : Tells (input_of cat tables work) log t = subst (λ g. Tells g log t) all tells in
     record {
-      of_run = record { tables = tables; tables_are = tabled; log = whole.log; log_is = whole.log_is };
-      text_is = whole.text_is;
+      of_run = record {
+        tables = tables;
+        tables_are = tabled;
+        log = log;
+        log_is = record { lawful = whole.calm.rests.lawful; within = whole.calm.rests.within; complete = whole.complete };
+      };
+      text_is = told.text_is;
     }

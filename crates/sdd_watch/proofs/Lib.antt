@@ -1,4 +1,5 @@
 mod All
+mod Followed
 pub mod Apart
 pub mod AtD
 pub mod AtT
@@ -11,7 +12,6 @@ pub mod Committed
 pub mod Cut
 pub mod CutDifference
 pub mod EachEvent
-mod EventIsReported
 pub mod FirstPlaces
 pub mod Flights
 pub mod Folding
@@ -20,7 +20,6 @@ pub mod FoundBy
 mod GivenMore
 pub mod Happening
 pub mod HasInside
-mod InRounds
 pub mod KeptBeside
 pub mod LinksLooked
 pub mod Looked
@@ -29,16 +28,13 @@ pub mod MadeLists
 pub mod Numbered
 pub mod PipesBegun
 pub mod PipesLooked
-pub mod PlacesListed
 pub mod PipesVisited
 pub mod Queued
 pub mod Recorded
 mod RoundEntry
-mod RoundsAreReported
 pub mod RowsAreReported
 pub mod Said
 pub mod Saying
-mod Scheduled
 pub mod SoFar
 pub mod Sourced
 pub mod TakingPart

@@ -1,5 +1,5 @@
 -- What happened at one event of a run, by the log before its mark and the log when all is done that it makes due.
-use Rattle.std.specs.Prelude.{ℕ, suc, ◌-◌, ◌==◌, Bool, true, false, not, ◌&&◌, ◌||◌, if◌then◌else◌, List, [], ◌∷◌, ◌++◌, drop, filter, find, fold, is_some, length, map, Option, Some, None}
+use Rattle.std.specs.Prelude.{ℕ, ◌-◌, ◌==◌, Bool, true, false, not, ◌&&◌, ◌||◌, if◌then◌else◌, List, [], ◌∷◌, ◌++◌, drop, filter, find, fold, is_some, length, map, Option, Some, None}
 use Rattle.std.specs.Ordering.{int_cmp, is_eq}
 use Rattle.std.specs.List.{flat_map, list_any}
 use Rattle.sdd_inside.specs.declared.delta.Found.{Found}
@@ -13,7 +13,7 @@ use Rattle.sdd_obligations.specs.base.Sites.{same_site, sites}
 use Rattle.sdd_obligations.specs.base.Words.{is_empty}
 use Rattle.sdd_obligations.specs.base.declared.change.Change.{Change}
 use Rattle.sdd_obligations.specs.base.declared.event.Event.{Event}
-use Rattle.sdd_obligations.specs.base.declared.event.Event.TheVariants.{Deliver, Down, Lose, Redeclare, Repeat, Resend, Settle, Submit, Tick, Up}
+use Rattle.sdd_obligations.specs.base.declared.event.Event.TheVariants.{Deliver, Down, Lose, Redeclare, Repeat, Resend, Submit, Tick, Up}
 use Rattle.sdd_obligations.specs.base.declared.number.DmNo.{DmNo}
 use Rattle.sdd_obligations.specs.base.declared.number.TxnNo.{TxnNo}
 use Rattle.sdd_obligations.specs.base.declared.site.Site.{Site}
@@ -26,9 +26,8 @@ use Rattle.sdd_obligations.specs.history.declared.record.Rec.TheVariants.{Apply,
 use Rattle.sdd_obligations.specs.invariants.Steps.{changes_at}
 use Rattle.sdd_obligations.specs.lang.Database.{Row}
 use Rattle.sdd_obligations.specs.logs.Due.{home_of as class_site}
-use Rattle.sdd_obligations.specs.logs.Entries.{Input, Log, Mark, Redeclares, Round, history, marks}
+use Rattle.sdd_obligations.specs.logs.Entries.{Input, Log, history, marks}
 use Rattle.sdd_obligations.specs.logs.Locals.{local_of, nth_era, redeclares, setting_of, txn_at}
-use Rattle.sdd_obligations.specs.logs.Marks.{Ahead, BetweenRounds, InRound, ahead, from_event}
 use Rattle.sdd_obligations.specs.logs.Traffic.{all_links, handed, is_down, link_of}
 use Rattle.sdd_obligations.specs.net.Links.{delivered, packet_at, unacked}
 use Rattle.sdd_obligations.specs.net.declared.packet.Packet.{Packet}
@@ -36,48 +35,8 @@ use Rattle.sdd_obligations.specs.net.declared.packet.Packet.TheVariants.{Ack, Me
 use Rattle.sdd_obligations.specs.wire.declared.msg.Msg.{Msg}
 use Rattle.sdd_run.specs.world.Pending.{commits}
 use Rattle.sdd_watch.specs.States.{state_of}
-
--- the event whose mark is the last
-abbrev pub last_event : Log → Event
-last_event [] = Settle
-last_event (Mark e ∷ log) = e
-last_event (Redeclares t ∷ log) = Redeclare
-last_event (_ ∷ log) = last_event log
-
--- where it stands in the schedule, by what is ahead before its mark
-
--- of a list with so many events the place, from 1, of the first of these that are left of it
-abbrev pub place_of_first : ℕ → List Event → ℕ
-place_of_first total events = suc total - length events
-
--- an event of a round belongs to the first event that is left; before another one settles may stand that are reached
-abbrev pub place_in : ℕ → Ahead → ℕ
-place_in total (InRound e rest events) = place_of_first total events
-place_in total (BetweenRounds events) = place_of_first total (from_event events)
-
-abbrev pub scheduled_at : Input → Log → ℕ
-scheduled_at g log = place_in (length g.events) (ahead g.events log)
-
--- how many rounds were begun since the last event of the schedule, where an event of a round is marked or ahead
-
--- so many within a round, none where the event that is marked is itself of the schedule
-abbrev pub if_in_round : Ahead → ℕ → ℕ
-if_in_round (InRound e rest events) n = n
-if_in_round (BetweenRounds events) n = 0
-
-abbrev pub rounds : List Event → Log → ℕ
-rounds events [] = 0
-rounds events (Mark e ∷ log) = if_in_round (ahead events log) (rounds events log)
-rounds events (Redeclares t ∷ log) = 0
-rounds events (Round es ∷ log) = suc (rounds events log)
-rounds events (_ ∷ log) = rounds events log
-
-abbrev pub round_in : ℕ → Ahead → Option ℕ
-round_in n (InRound e rest events) = Some n
-round_in n (BetweenRounds events) = None
-
-abbrev pub round_at : Input → Log → Option ℕ
-round_at g log = round_in (rounds g.events log) (ahead g.events log)
+-- where an event stands in the schedule
+pub use Rattle.sdd_run.specs.schedule.Places.{if_in_round, last_event, place_in, place_of_first, round_at, round_in, rounds, scheduled_at}
 
 -- what it found
 

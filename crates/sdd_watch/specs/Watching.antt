@@ -1,11 +1,11 @@
 -- What is kept between two events of what stood where, as the log gives it when the last event was over.
 -- For the contracts of the code: not needed to read `IsInsideOf`.
-use Rattle.std.specs.Prelude.{ℕ, ◌-◌, ◌≡◌, ◌==◌, ◌&&◌, Bool, cond, false, not, if◌then◌else◌, List, [], ◌∷◌, ◌++◌, drop, filter, filter_map, is_some, length, map, option_map, Option, Some, None}
+use Rattle.std.specs.Prelude.{ℕ, ◌-◌, ◌≡◌, ◌==◌, ◌&&◌, Bool, cond, false, not, if◌then◌else◌, List, [], drop, filter, filter_map, is_some, length, map, option_map, Option, Some, None}
 use Rattle.std.specs.BTreeMap.{get}
 use Rattle.std.specs.BTreeSet.{contains}
 use Rattle.std.specs.List.{list_any, position}
 use Rattle.std.specs.Ordering.{nat_cmp}
-use Rattle.sdd_obligations.specs.All.{D, Deliver, Done, Down, Entry, Event, History, Input, IsLinkOf, IsPossible, Log, Lose, Mark, Message, Msg, Packet, Redeclare, Redeclares, Repeat, Resend, Rests, Site, U, Up, all_links, are_linked, class_no, dm_no, handed, history, is_down, is_empty, link_of, local_of, marks, numbers_to, packet_at, pipe, same_site, sent, sites, time_at}
+use Rattle.sdd_obligations.specs.All.{D, Deliver, Done, Down, Event, History, Input, IsLinkOf, Log, Lose, Message, Msg, Packet, Repeat, Resend, Site, U, Up, all_links, are_linked, class_no, dm_no, handed, history, is_down, is_empty, link_of, local_of, numbers_to, packet_at, pipe, same_site, sent, sites, time_at}
 use Rattle.sdd_obligations.specs.net.Links.{unacked}
 use Rattle.sdd_obligations.specs.serial_orders.Finding.{pair_cmp}
 use Rattle.sdd_inside.specs.Differences.{is_of_link, takes_one}
@@ -15,46 +15,23 @@ use Rattle.sdd_inside.specs.declared.moment.LinkMoment.{LinkMoment}
 use Rattle.sdd_inside.specs.declared.moment.PipeMoment.{PipeMoment}
 use Rattle.sdd_inside.specs.declared.moment.QueueMoment.{QueueMoment}
 use Rattle.sdd_run.specs.world.Pending.{commits}
+use Rattle.sdd_run.specs.schedule.declared.turn.Turn.{Turn}
 use Rattle.sdd_run.specs.world.Represents.{Calm}
 use Rattle.sdd_run.specs.world.declared.world.World.{World}
 use Rattle.sdd_watch.specs.Awaiting.{purposed, waiting_on}
-use Rattle.sdd_watch.specs.Happens.{found_by, last_event, round_at, scheduled_at, taken}
+use Rattle.sdd_watch.specs.Happens.{found_by, last_event, taken}
 use Rattle.sdd_watch.specs.Moments.{all_pipes, came, handed_on, passed_to, pipes_at_module, queues_from, source}
 use Rattle.sdd_watch.specs.declared.commits.Commits.{Commits}
 use Rattle.sdd_watch.specs.declared.dones.Dones.{Dones}
 use Rattle.sdd_watch.specs.declared.foreseen.Foreseen.{Foreseen}
 use Rattle.sdd_watch.specs.declared.foreseen.Foreseen.TheVariants as foreseens
-use Rattle.sdd_watch.specs.declared.watch.Turn.{Turn}
 use Rattle.sdd_watch.specs.declared.watch.Watch.{Watch}
 use Rattle.sdd_watch.specs.declared.watched_link.Arrived.{Arrived}
 use Rattle.sdd_watch.specs.declared.watched_link.LinkSeen.{LinkSeen}
 use Rattle.sdd_watch.specs.declared.watched_link.WatchedLink.{WatchedLink}
 use Rattle.sdd_watch.specs.declared.watched_pipe.WatchedPipe.{WatchedPipe}
-
 -- between two logs
-
--- an event, or a class list that is put in force
-abbrev pub IsMark : Entry → Type 0
-IsMark (Mark e) = Unit {0}
-IsMark (Redeclares t) = Unit {0}
-IsMark _ = ⊥
-
--- One event lies between two logs: after the first its mark is next, where a round that begins has its entry before it, and
--- after the second nothing more of it is due.
-pub record IsBetween (g : Input) (old new : Log) : Type 0 where
-  pub mark : Entry
-  pub is_mark : IsMark mark
-  pub more : Log
-  pub parts : new ≡ more ++ mark ∷ old
-  pub no_marks : marks more ≡ 0
-  pub before : Rests g old
-  pub after : Rests g new
-
--- where the event stands in the schedule
-pub record IsTurn (g : Input) (old new : Log) (turn : Turn) : Type 0 where
-  pub event : turn.event ≡ last_event new
-  pub scheduled : turn.scheduled ≡ scheduled_at g old
-  pub round : turn.round ≡ round_at g old
+pub use Rattle.sdd_run.specs.schedule.Events.{IsBetween, IsMark, IsTellable, IsTurn}
 
 -- the world is that after the event, and this is what it found
 pub record IsOver (g : Input) (old new : Log) (w : World) (e : Event) (found : Found) : Type 0 where
@@ -62,11 +39,6 @@ pub record IsOver (g : Input) (old new : Log) (w : World) (e : Event) (found : F
   pub calm : Calm w g new
   pub event_is : e ≡ last_event new
   pub found_is : found ≡ found_by e old new
-
--- what names there are in an event: a class list that is put in force names nothing
-abbrev pub IsTellable : Input → Event → Type 0
-IsTellable g Redeclare = Unit {0}
-IsTellable g e = IsPossible g e
 
 -- what an event is about to find
 

@@ -91,8 +91,8 @@ fn foresee_act(can_do: bool) -> Foreseen
 
 /// What an event finds that is next. Takes no memory.
 pub(crate) fn foresee(world: &World<'_>, event: &Event) -> Foreseen
-    requires { (g : Input) × (log : Log) × Calm world.now g log × IsPossible g event.now }
-    ensures { (g : Input) (log : Log) → Calm world.now g log → IsPossible g event.now
+    requires { (g : Input) × (log : Log) × Calm world.now g log × IsTellable g event.now }
+    ensures { (g : Input) (log : Log) → Calm world.now g log → IsTellable g event.now
         → result ≡ foreseen_by event.now log }
 {
     match event {

@@ -8,13 +8,14 @@ ghost use Rattle.sdd_run.specs.world.Represents.{Represents};
 ghost use Rattle.sdd_watch.specs.ScheduleSoFar.{Tells};
 ghost use Rattle.sdd_watch.specs.Text.{IsInsideOf};
 
-use crate::schedule::carry_out;
+use crate::foreseen::Foreseen;
 use crate::teller::Teller;
 use crate::watch::Watch;
 use sdd_inside::put_beginning;
 use sdd_obligations::{Catalogue, Event, NoMemory, Table};
 use sdd_run::{
-    Lists, Workload, World, WorldEnd, data_modules, first_table, further, lists_of, tables_of,
+    Lists, Workload, World, WorldEnd, carry_out, data_modules, first_table, further, lists_of,
+    tables_of,
 };
 use std::alloc::Global;
 
@@ -41,6 +42,7 @@ fn begin<'c>(
         catalogue,
         watch,
         text,
+        finds: Foreseen::Something,
     })
 }
 

@@ -23,7 +23,6 @@ mod places;
 mod queues;
 mod reach;
 mod rows;
-mod schedule;
 mod states;
 mod taking_part;
 mod teller;

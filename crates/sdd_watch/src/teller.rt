@@ -2,14 +2,16 @@
 ghost use Rattle.std.specs.Prelude.{◌≡◌, ◌++◌, OnOk};
 ghost use Rattle.sdd_inside.specs.Lines.{line};
 ghost use Rattle.sdd_obligations.specs.All.{Input, Log};
+ghost use Rattle.sdd_watch.specs.ScheduleSoFar.{Foresees, Tells};
 ghost use Rattle.sdd_watch.specs.Text.{change};
 ghost use Rattle.sdd_watch.specs.Watching.{IsToTell, Watches};
 
-use crate::foreseen::{Foreseen, find_outcome};
-use crate::watch::{Turn, Watch};
+use crate::foreseen::{Foreseen, find_outcome, foresee};
+use crate::watch::Watch;
 use sdd_inside::put_line;
-use sdd_obligations::{Catalogue, NoMemory};
-use sdd_run::World;
+use sdd_obligations::{Catalogue, Event, NoMemory};
+use sdd_run::{Observer, Turn, World};
+use std::mem;
 
 /// What is reported so far, and what was where when that was over.
 #[derive(Drop)]
@@ -17,6 +19,8 @@ pub(crate) struct Teller<'c> {
     pub(crate) catalogue: &'c Catalogue,
     pub(crate) watch: Watch,
     pub(crate) text: Vec<u8>,
+    /// What the event that is next is about to find.
+    pub(crate) finds: Foreseen,
 }
 
 impl<'c> Teller<'c> {
@@ -42,6 +46,27 @@ impl<'c> Teller<'c> {
         let found = find_outcome(world, &turn.event, foreseen);
         let delta = self.watch.look(world, turn, found)?;
         put_line(&mut self.text, self.catalogue, world.transactions(), &delta)?;
+        Ok(())
+    }
+}
+
+impl<'c> Observer for Teller<'c> {
+    ghost follows = { λ teller g log. Tells g log teller };
+
+    ghost awaits = { λ teller g log e. Foresees g log e teller };
+
+    fn law_given(&self) {}
+
+    fn law_round(&self) {}
+
+    fn look_before(&mut self, world: &World<'_>, event: &Event) {
+        let finds = foresee(world, event);
+        self.finds = finds;
+    }
+
+    fn look_after(&mut self, world: &World<'_>, turn: Turn) -> Result<(), NoMemory> {
+        let finds = mem::replace(&mut self.finds, Foreseen::Something);
+        self.tell(world, turn, finds)?;
         Ok(())
     }
 }

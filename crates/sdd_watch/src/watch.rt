@@ -21,18 +21,8 @@ use sdd_inside::{
     Delta, Found, Happened, LinkMoment, Moment, PipeMoment, QueueMoment, RowDelta, difference,
 };
 use sdd_obligations::{Catalogue, Event, Listed, NoMemory, Site};
-use sdd_run::World;
+use sdd_run::{Turn, World};
 use std::alloc::Global;
-
-/// Where an event stands in the schedule.
-#[derive(Clone, Copy)]
-pub(crate) struct Turn {
-    pub(crate) event: Event,
-    /// The place in the schedule, counted from 1, of what it is or belongs to.
-    pub(crate) scheduled: u32,
-    /// The round to which it belongs.
-    pub(crate) round: Option<u32>,
-}
 
 /// What stood where when the last event was over.
 #[derive(Drop)]

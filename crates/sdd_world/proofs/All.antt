@@ -66,11 +66,9 @@ pub use Rattle.sdd_world.specs.Kinds.{AreLinked}
 pub use Rattle.sdd_world.specs.Modules.{AllRepresent, AreRedeclared, LivesD, LivesT, LivesU, Represent, StayAtOthers}
 pub use Rattle.sdd_world.specs.LastHomes.{AreCommitted, last_home, pending_at_last}
 pub use Rattle.sdd_world.specs.Pending.{commits, status_at, unmet, wait_at, wait_for, waits_of, why_of}
-pub use Rattle.sdd_world.specs.Schedules.{AreAllowed, IsAllowed, IsListed, lists_after, takes_rounds, with_events}
-pub use Rattle.sdd_world.specs.Represents.{Position, Arrives, Before, Calm, EndsBy, HandedOn, Handing, Happened, HasBoxes, HasSenders, IsNextList, IsSettled, IsSoundNetwork, Keeping, KeepsFor, Marked, Parts, Redeclaring, Represents, Resumed, Resuming, Risen, Rising, Rounding, Settles, Settling, Spooled, position_of}
+pub use Rattle.sdd_world.specs.Represents.{Position, Arrives, Before, Calm, EndsBy, HandedOn, Handing, Happened, HasBoxes, HasSenders, IsNextList, IsSettled, IsSoundNetwork, Keeping, KeepsFor, Marked, Parts, Redeclaring, Represents, Resumed, Resuming, Risen, Rising, Rounding, Settling, Spooled, position_of}
 pub use Rattle.sdd_world.specs.declared.ends.WorldEnd.{WorldEnd}
 pub use Rattle.sdd_world.specs.declared.ends.WorldEnd.TheVariants.{Limit}
-pub use Rattle.sdd_world.specs.declared.schedule.ClassList.{ClassList}
 pub use Rattle.sdd_world.specs.declared.sites.Sites.{Sites}
 pub use Rattle.sdd_world.specs.declared.world.World.{World}
 pub use Rattle.std.proofs.Common.{All, Bool, Err, Global, IfOk, IsErrAnd, IsErrOf, IsTrue, List, None, Ok, OnOk, Option, Result, Some, Vec, [], add-one, ap, append-nil, append_assoc, arith, cond, drop, eq-eqb, false, filter, filter_map, flat_map, fold, if◌then◌else◌, inl, inr, is_none, is_some, le-leb, le-ltb, leb-true, length, length-append, lt-ltb, map, max, nat_cmp, nat_le, nat_lt, ne_eqb, not, option_map, refl, replicate, rules, slice_get, slice_index_or as get_or, slice_set, subst, suc, sym, take, true, zero, ℕ, ◌&&◌, ◌++◌, ◌+◌, ◌-◌, ◌<◌, ◌==◌, ◌^◌, ◌||◌, ◌↔◌, ◌∙◌, ◌∷◌, ◌≡◌, ◌≢◌, ◌≤◌}

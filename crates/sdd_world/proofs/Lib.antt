@@ -3,7 +3,6 @@ pub mod Arriving
 pub mod Beginning
 pub mod FirstModules
 pub mod ByTable
-pub mod Carrying
 pub mod Delivering
 pub mod Failing
 pub mod Fitting
@@ -37,3 +36,4 @@ pub use Rattle.sdd_attempt.proofs as attempts
 pub use Rattle.sdd_dm.proofs as data_module
 pub use Rattle.sdd_tm.proofs as txn_module
 pub use Rattle.sdd_umod.proofs as u_module
+pub use Rattle.sdd_needs.proofs as needs

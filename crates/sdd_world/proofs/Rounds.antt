@@ -1,5 +1,5 @@
--- Rounds, settles and single events, over plain worlds.
-use Rattle.sdd_world.proofs.All.{AllRepresent, AtEach, Before, Boxes, Call, Calm, Carries, D, Down, EndsBy, Event, Happened, Input, OnlyMarksAreDue, IsGood, IsModuleOf, IsPossible, IsSettled, IsSingle, IsSoundNetwork, List, Log, MAX_RUN_EVENTS, Mark, Marked, Msg, Parts, Redeclare, Represent, Represents, Rests, Round, Rounding, Settle, Settling, Site, Some, Spooled, T, TakesRounds, U, Up, World, [], after_mark, all_links, ap, arith, calls_of, each_of_round, event_left, false, few_marks, in_round, lawful_grows, left, length, links, local_of, lt-ltb, marks, next, no_events_quiet, none_left, none_to_hand, one_more, quiet, refl, round, round_next, setting_of, settled, still_none, subst, suc, sym, takes_part, true, with_event, ℕ, ◌++◌, ◌+◌, ◌<◌, ◌∙◌, ◌∷◌, ◌≡◌, ◌≢◌, ◌≤◌}
+-- Rounds and single events, over plain worlds.
+use Rattle.sdd_world.proofs.All.{AllRepresent, AtEach, Before, Boxes, Call, Calm, Carries, D, Down, EndsBy, Event, Happened, Input, OnlyMarksAreDue, IsGood, IsModuleOf, IsPossible, IsSingle, IsSoundNetwork, List, Log, MAX_RUN_EVENTS, Mark, Marked, Msg, Parts, Redeclare, Represent, Represents, Rests, Round, Rounding, Settle, Settling, Site, Some, Spooled, T, TakesRounds, U, Up, World, [], after_mark, all_links, ap, arith, calls_of, each_of_round, event_left, false, few_marks, in_round, lawful_grows, left, links, local_of, lt-ltb, marks, next, none_left, none_to_hand, one_more, quiet, refl, round, round_next, setting_of, still_none, subst, suc, sym, takes_part, with_event, ℕ, ◌++◌, ◌+◌, ◌∙◌, ◌∷◌, ◌≡◌, ◌≢◌, ◌≤◌}
 use Rattle.sdd_world.proofs.Parting.{all_on, spooled_on}
 
 pub single : (g : Input) (e : Event) → IsPossible g e → IsSingle e
@@ -87,18 +87,6 @@ round_opened w g log to events s q f =
           (each_of_round (IsPossible g) g.catalogue.tms g.catalogue.dms (calls_of log) (λ a b l. (l, (l, omega arith))));
     }
 
-pub round_begins : (w : World) (g : Input) (log : Log) (e : Event) (events : List Event) → Settling w g log e → quiet (all_links g) (calls_of log) ≡ false
-    → ((tms dms : ℕ) (calls : List (Call Msg)) → Carries w.net tms dms calls → events ≡ round (links tms dms) calls)
-    → (more : Log) × Rounding w g more e events
-round_begins w g log to events s q f = (Round events ∷ log, round_opened w g log to events s q f)
-
-pub round_some : (w : World) (g : Input) (log : Log) (e : Event) (events : List Event) → Settling w g log e → quiet (all_links g) (calls_of log) ≡ false
-    → ((tms dms : ℕ) (calls : List (Call Msg)) → Carries w.net tms dms calls → events ≡ round (links tms dms) calls) → 0 < length events
-round_some w g log to [] s q f =
-    let e : round (links g.catalogue.tms g.catalogue.dms) (calls_of log) ≡ [] = sym (f g.catalogue.tms g.catalogue.dms (calls_of log) s.calm.parts.net) in
-    let no : true ≡ false = sym (no_events_quiet g.catalogue.tms g.catalogue.dms (calls_of log) e) ∙ q in cc
-round_some w g log to (x ∷ events) s q f = omega arith
-
 pub round_before : (w : World) (g : Input) (log : Log) (to : Event) (events : List Event) (e : Event)
     (rest : List Event) → Rounding w g log to events → events ≡ e ∷ rest
     → Before w g log e
@@ -133,12 +121,6 @@ round_ends w g log e events r same = record {
   rounds = r.rounds;
   ends = r.ends;
 }
-
--- a settle that is reached is carried out
-pub settle_ends : (w : World) (g : Input) → IsSettled w g Settle → (more : Log) × Represents w g more
-settle_ends w g s =
-    let c = s.settling.calm in
-    (s.more, record { calm = c; complete = settled g s.more s.settling.waiting (free g s.more c.rests) s.settling.left_is s.settling.ends s.is_quiet })
 
 -- one event more is given
 pub given_more : (w w2 : World) (g : Input) (log : Log) (e : Event) → IsGood (with_event g e)

@@ -5,7 +5,6 @@ pub mod DueAt
 pub mod Following
 pub mod Kinds
 pub mod Modules
-pub mod Schedules
 pub mod Represents
 pub mod Standings
 pub mod Copies
@@ -16,3 +15,4 @@ pub use Rattle.sdd_attempt.specs.exchange as exchange
 pub use Rattle.sdd_dm.specs as data_module
 pub use Rattle.sdd_tm.specs as txn_module
 pub use Rattle.sdd_umod.specs as u_module
+pub use Rattle.sdd_needs.specs as needs

@@ -137,10 +137,6 @@ pub record Settling (w : World) (g : Input) (log : Log) (e : Event) : Type 0 whe
   pub rounds : TakesRounds e
   pub ends : EndsIn e waiting
 
--- a round was carried out
-abbrev pub Settles : World → Input → Event → Type 0
-Settles w g e = (more : Log) × Settling w g more e
-
 -- The rounds are over: nothing is in flight, and all is acknowledged. Said of a world within a settle or a redeclare;
 -- `IsSettled` of sdd_progress is said of a log at which nothing is next.
 pub record IsSettled (w : World) (g : Input) (e : Event) : Type 0 where

@@ -1,19 +1,16 @@
 //! The running world: the modules of all sites and the network between them, driven by events.
 //!
 //! The one contract to the layer above: a world represents the complete lawful log of the events
-//! that it was given, one by one (`step`, `settle`, `redeclare`) or as a schedule (`carry_out`), or
-//! the call ends it exactly where the limit ends that log. What it tells is what that log says: its
-//! records, modules and links, the copies (`tables`) and what is pending (`pending`).
-//!
-//! A settle or a redeclare can be carried out event by event too (`begin_rounds`, `next_round`,
-//! `in_round`, `end_redeclare`). What `sites`, `mail`, `is_down` and `count_handed` tell holds
-//! between any two events, also within a round.
+//! that it was given, one by one in place (`add_event`; a settle or a redeclare round by round:
+//! `begin_rounds`, `next_round`, `in_round`, `end_redeclare`), or the call ends it exactly where the
+//! limit ends that log. What it tells is what that log says: its records, modules and links, the
+//! copies (`tables`) and what is pending (`pending`). What `sites`, `mail`, `is_down` and
+//! `count_handed` tell holds between any two events, also within a round.
 //!
 //! Below that, `Sites` hands each call to the module of one site and no other; `home` gives
 //! the site of a transaction; `Mail` carries messages as the bytes that spell them.
 #![tactic(auto)]
 
-mod adding;
 mod commits;
 mod ends;
 mod homes;
@@ -24,7 +21,6 @@ mod pending;
 mod putting;
 mod readers;
 mod redeclaring;
-mod schedule;
 mod sites;
 mod tables;
 mod turns;
@@ -35,7 +31,6 @@ pub use ends::WorldEnd;
 pub use homes::home;
 pub use mail::Mail;
 pub use making::data_modules;
-pub use schedule::{ClassList, carry_out};
 pub use sites::Sites;
 pub use world::World;
 
@@ -44,3 +39,6 @@ pub use sdd_attempt::{Answer, Line};
 pub use sdd_dm::{ClassNos, DataModule};
 pub use sdd_tm::{Asked, ClassRun, TxnModule};
 pub use sdd_umod::UModule;
+pub use sdd_base::{Event, NoMemory};
+pub use sdd_catalog::Catalogue;
+pub use sdd_protocol::Table;

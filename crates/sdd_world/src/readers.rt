@@ -171,7 +171,7 @@ impl<'a> World<'a> {
     }
 
     /// Whether no packet is in flight and every message is acknowledged. Takes no memory.
-    pub fn quiet(&self) -> bool
+    pub(crate) fn quiet(&self) -> bool
         requires { (tms : ℕ) × (dms : ℕ) × (calls : List (Call Msg)) × Carries self.now.net tms dms calls }
         ensures { (g : Input) (log : Log)
             → Carries self.now.net g.catalogue.tms g.catalogue.dms (calls_of log)

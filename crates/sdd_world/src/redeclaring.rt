@@ -1,7 +1,7 @@
 //! Another class list is put in force in a world, once its links are quiet.
-ghost use Rattle.std.specs.Prelude.{◌≡◌, IfOk, IsErrOf};
-ghost use Rattle.sdd_needs.specs.All.{Input, IsGood, Log, Redeclare, with_event};
-ghost use Rattle.sdd_world.specs.Represents.{EndsBy, IsNextList, Redeclaring, Represents};
+ghost use Rattle.std.specs.Prelude.{IfOk, IsErrOf};
+ghost use Rattle.sdd_needs.specs.All.{Input, Log};
+ghost use Rattle.sdd_world.specs.Represents.{EndsBy, Redeclaring, Represents};
 
 use crate::ends::WorldEnd;
 use crate::world::World;
@@ -33,30 +33,5 @@ impl<'a> World<'a> {
         self.sites.put_in_force(catalogue, table, t);
         self.catalogue = catalogue;
         Ok(())
-    }
-
-    /// Carries out rounds until nothing is in flight and everything is acknowledged, puts the next
-    /// class list in force with its protocol table, and adds a `Redeclare` to the events that
-    /// were given.
-    ///
-    /// # Errors
-    ///
-    /// As of `step`.
-    pub fn redeclare(
-        mut self,
-        catalogue: &'a Catalogue,
-        table: &'a Table,
-    ) -> Result<World<'a>, WorldEnd>
-        requires { (g : Input) × (log : Log) × Represents self g log
-            × IsGood (with_event g Redeclare) × IsNextList g catalogue.now table.now }
-        ensures log { IfOk result (λ world. (g : Input) (log : Log) → Represents self.entry g log
-            → IsGood (with_event g Redeclare) → IsNextList g catalogue.now table.now
-            → (more : Log) × Represents world (with_event g Redeclare) more) }
-        ensures limit { IsErrOf result WorldEnd.Limit → (g : Input) (log : Log)
-            → Represents self.entry g log → IsGood (with_event g Redeclare)
-            → IsNextList g catalogue.now table.now → EndsBy (with_event g Redeclare) }
-    {
-        self.add_redeclare(catalogue, table)?;
-        Ok(self)
     }
 }

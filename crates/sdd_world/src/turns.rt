@@ -1,6 +1,7 @@
-//! The events of a settle or a redeclare, carried out one by one.
-ghost use Rattle.std.specs.Prelude.{◌≡◌, ◌∷◌, List, suc, true, false, IfOk, IsErrOf, MatchOption};
-ghost use Rattle.sdd_needs.specs.All.{Event as Happening, Input, IsGood, Log, Redeclare, Round, TakesRounds, all_links, calls_of, quiet, with_event};
+//! Events, carried out one by one in place: those of a schedule, and those of the rounds of a settle
+//! or a redeclare.
+ghost use Rattle.std.specs.Prelude.{◌≡◌, ◌∷◌, List, suc, true, false, IfOk, OnOk, IsErrOf, MatchOption};
+ghost use Rattle.sdd_needs.specs.All.{Event as Happening, Input, IsGood, IsPossible, Log, Redeclare, Round, TakesRounds, all_links, calls_of, quiet, with_event};
 ghost use Rattle.sdd_world.specs.Represents.{EndsBy, IsNextList, IsSettled, Represents, Rounding, Settling, events_of};
 
 use crate::ends::WorldEnd;
@@ -10,21 +11,43 @@ use sdd_catalog::Catalogue;
 use sdd_protocol::Table;
 
 impl<'a> World<'a> {
+    /// Carries out an event, which is added to those that were given. It is no `Settle` and no
+    /// `Redeclare`, and what it names exists.
+    ///
+    /// # Errors
+    ///
+    /// Where an event, or a message of a link, would pass the limit, and where memory runs out;
+    /// the world is gone then.
+    pub fn add_event(&mut self, event: &Event) -> Result<(), WorldEnd>
+        requires { (g : Input) × (log : Log) × Represents self.old g log × IsPossible g event.now
+            × IsGood (with_event g event.now) }
+        ensures log { OnOk result ((g : Input) (log : Log) → Represents self.old g log
+            → IsPossible g event.now → IsGood (with_event g event.now)
+            → (more : Log) × Represents self.new (with_event g event.now) more) }
+        ensures limit { IsErrOf result WorldEnd.Limit → (g : Input) (log : Log)
+            → Represents self.old g log → IsPossible g event.now → IsGood (with_event g event.now)
+            → EndsBy (with_event g event.now) }
+    {
+        self.given.push(*event)?;
+        self.apply_event(event)?;
+        Ok(())
+    }
+
     /// Adds a `Settle` or a `Redeclare` to the events that were given: rounds are next, until the
     /// links are quiet.
     ///
     /// # Errors
     ///
     /// Only where memory runs out; the world is gone then.
-    pub fn begin_rounds(mut self, event: Event) -> Result<Self, NoMemory>
-        requires { (g : Input) × (log : Log) × Represents self g log × TakesRounds event
+    pub fn begin_rounds(&mut self, event: Event) -> Result<(), NoMemory>
+        requires { (g : Input) × (log : Log) × Represents self.old g log × TakesRounds event
             × IsGood (with_event g event) }
-        ensures { IfOk result (λ world. (g : Input) (log : Log) → Represents self.entry g log
+        ensures { OnOk result ((g : Input) (log : Log) → Represents self.old g log
             → TakesRounds event → IsGood (with_event g event)
-            → Settling world (with_event g event) log event) }
+            → Settling self.new (with_event g event) log event) }
     {
         self.given.push(event)?;
-        Ok(self)
+        Ok(())
     }
 
     /// The events of the next round; None exactly where nothing is in flight and everything is
@@ -48,19 +71,19 @@ impl<'a> World<'a> {
     ///
     /// # Errors
     ///
-    /// As of `step`.
-    pub fn in_round(mut self, event: &Event) -> Result<Self, WorldEnd>
+    /// As of `add_event`.
+    pub fn in_round(&mut self, event: &Event) -> Result<(), WorldEnd>
         requires { (g : Input) × (log : Log) × (e : Happening) × (rest : List Happening)
-            × Rounding self g log e (event.now ∷ rest) }
-        ensures log { IfOk result (λ world. (g : Input) (log : Log) (e : Happening)
-            (rest : List Happening) → Rounding self.entry g log e (event.now ∷ rest)
-            → (more : Log) × Rounding world g more e rest) }
-        ensures one { IfOk result (λ world. events_of world ≡ suc (events_of self.entry)) }
+            × Rounding self.old g log e (event.now ∷ rest) }
+        ensures log { OnOk result ((g : Input) (log : Log) (e : Happening)
+            (rest : List Happening) → Rounding self.old g log e (event.now ∷ rest)
+            → (more : Log) × Rounding self.new g more e rest) }
+        ensures one { OnOk result (events_of self.new ≡ suc (events_of self.old)) }
         ensures limit { IsErrOf result WorldEnd.Limit → (g : Input) (log : Log) (e : Happening)
-            (rest : List Happening) → Rounding self.entry g log e (event.now ∷ rest) → EndsBy g }
+            (rest : List Happening) → Rounding self.old g log e (event.now ∷ rest) → EndsBy g }
     {
         self.apply_event(event)?;
-        Ok(self)
+        Ok(())
     }
 
     /// Puts a class list in force with its protocol table, once the rounds of a `Redeclare` are
@@ -70,21 +93,21 @@ impl<'a> World<'a> {
     ///
     /// Where the event would pass the limit.
     pub fn end_redeclare(
-        mut self,
+        &mut self,
         catalogue: &'a Catalogue,
         table: &'a Table,
-    ) -> Result<Self, WorldEnd>
+    ) -> Result<(), WorldEnd>
         requires { (g : Input) × IsNextList g catalogue.now table.now
-            × IsSettled self (with_event g Redeclare) Redeclare }
-        ensures log { IfOk result (λ world. (g : Input) → IsNextList g catalogue.now table.now
-            → IsSettled self.entry (with_event g Redeclare) Redeclare
-            → (more : Log) × Represents world (with_event g Redeclare) more) }
+            × IsSettled self.old (with_event g Redeclare) Redeclare }
+        ensures log { OnOk result ((g : Input) → IsNextList g catalogue.now table.now
+            → IsSettled self.old (with_event g Redeclare) Redeclare
+            → (more : Log) × Represents self.new (with_event g Redeclare) more) }
         ensures limit { IsErrOf result WorldEnd.Limit → (g : Input)
             → IsNextList g catalogue.now table.now
-            → IsSettled self.entry (with_event g Redeclare) Redeclare
+            → IsSettled self.old (with_event g Redeclare) Redeclare
             → EndsBy (with_event g Redeclare) }
     {
         self.put_in_force(catalogue, table)?;
-        Ok(self)
+        Ok(())
     }
 }

@@ -1,8 +1,8 @@
-ghost use Rattle.std.specs.Prelude.{◌≡◌, ◌<◌, ◌≤◌, All, ◌++◌, [], ◌∷◌, true, false, ℕ, List, Some, IfOk, OnOk, IsErrOf, MatchOption};
-ghost use Rattle.sdd_needs.specs.All.{Deliver, Down, Event, Input, IsFirst, IsGood, IsLinkOf, IsPossible, IsSiteOf, Log, Lose, Msg, Repeat, Resend, Settle, Site, Submit, TakesAway, Tick, U, Up, all_links, calls_of, from_one, kept_from, mailbox_at, quiet, takes_part as takes_part_in, with_event};
+ghost use Rattle.std.specs.Prelude.{◌≡◌, ◌<◌, ◌≤◌, All, ◌++◌, [], ◌∷◌, true, ℕ, List, Some, IfOk, OnOk, IsErrOf};
+ghost use Rattle.sdd_needs.specs.All.{Deliver, Down, Event, Input, IsFirst, IsLinkOf, IsSiteOf, Log, Lose, Msg, Repeat, Resend, Settle, Site, Submit, TakesAway, Tick, U, Up, from_one, kept_from, mailbox_at, takes_part as takes_part_in};
 ghost use Rattle.sdd_world.specs.declared.world.World.{World};
 ghost use Rattle.sdd_world.specs.Following.{MaySend, Followed, IsPast};
-ghost use Rattle.sdd_world.specs.Represents.{position_of, Arrives, Before, EndsBy, HandedOn, Handing, Happened, IsSettled, Keeping, Marked, Resumed, Resuming, Rising, Risen, Settles, Settling, Spooled, Represents};
+ghost use Rattle.sdd_world.specs.Represents.{position_of, Arrives, Before, EndsBy, HandedOn, Handing, Happened, Keeping, Marked, Resumed, Resuming, Rising, Risen, Spooled};
 
 use crate::ends::WorldEnd;
 use crate::homes::home_in;
@@ -290,78 +290,5 @@ impl<'a> World<'a> {
             Event::Up(at) => self.come_up(*at),
             Event::Settle | Event::Redeclare => Ok(()),
         }
-    }
-
-    /// Carries out a round.
-    fn round(&mut self) -> Result<(), WorldEnd>
-        requires { (g : Input) × (log : Log) × (e : Event) × Settling self.old g log e
-            × (quiet (all_links g) (calls_of log) ≡ false) }
-        ensures ok { IfOk result (λ _. (g : Input) (log : Log) (e : Event)
-            → Settling self.old g log e → quiet (all_links g) (calls_of log) ≡ false
-            → Settles self.new g e) }
-        ensures more { IfOk result (λ _. self.old.marks < self.new.marks) }
-        ensures limit { IsErrOf result WorldEnd.Limit → (g : Input) (log : Log) (e : Event)
-            → Settling self.old g log e → quiet (all_links g) (calls_of log) ≡ false → EndsBy g }
-    {
-        let mut events = VecDeque::from_vec(self.net.round()?);
-        while let Some(event) = events.pop_front() {
-            self.apply_event(&event)?;
-        }
-        Ok(())
-    }
-
-    /// Carries out rounds until the world is quiet.
-    pub(crate) fn run_rounds(&mut self) -> Result<(), WorldEnd>
-        requires { (g : Input) × (log : Log) × (e : Event) × Settling self.old g log e }
-        ensures ok { IfOk result (λ _. (g : Input) (log : Log) (e : Event)
-            → Settling self.old g log e → IsSettled self.new g e) }
-        ensures limit { IsErrOf result WorldEnd.Limit → (g : Input) (log : Log) (e : Event)
-            → Settling self.old g log e → EndsBy g }
-    {
-        while !self.quiet() {
-            self.round()?;
-        }
-        Ok(())
-    }
-
-    /// Carries out an event, which is added to those that were given. It is no `Settle` and no
-    /// `Redeclare`, and what it names exists.
-    ///
-    /// # Errors
-    ///
-    /// Where an event, or a message of a link, would pass the limit, and where memory runs out;
-    /// the world is gone then.
-    pub fn step(mut self, event: &Event) -> Result<Self, WorldEnd>
-        requires { (g : Input) × (log : Log) × Represents self g log × IsPossible g event.now
-            × IsGood (with_event g event.now) }
-        ensures log { IfOk result (λ world. (g : Input) (log : Log) → Represents self.entry g log
-            → IsPossible g event.now → IsGood (with_event g event.now)
-            → (more : Log) × Represents world (with_event g event.now) more) }
-        ensures limit { IsErrOf result WorldEnd.Limit → (g : Input) (log : Log)
-            → Represents self.entry g log → IsPossible g event.now → IsGood (with_event g event.now)
-            → EndsBy (with_event g event.now) }
-    {
-        self.add_event(event)?;
-        Ok(self)
-    }
-
-    /// Carries out rounds until nothing is in flight and everything is acknowledged, and adds a
-    /// `Settle` to the events that were given.
-    ///
-    /// # Errors
-    ///
-    /// As of `step`.
-    pub fn settle(mut self) -> Result<Self, WorldEnd>
-        requires { (g : Input) × (log : Log) × Represents self g log
-            × IsGood (with_event g Settle) }
-        ensures log { IfOk result (λ world. (g : Input) (log : Log) → Represents self.entry g log
-            → IsGood (with_event g Settle)
-            → (more : Log) × Represents world (with_event g Settle) more) }
-        ensures limit { IsErrOf result WorldEnd.Limit → (g : Input) (log : Log)
-            → Represents self.entry g log → IsGood (with_event g Settle)
-            → EndsBy (with_event g Settle) }
-    {
-        self.add_settle()?;
-        Ok(self)
     }
 }

@@ -1,9 +1,9 @@
 use Rattle.sdd_run.proofs.All.{All, AllBegin, BeginsD, Catalogue, FitsStart, Input, IsBegun, IsEraOf, IsGood, IsSoundCatalogue, MAX_DMS, MAX_TMS, Represents, [], ap, arith, eras_with_tables, first_input, length, refl, subst, sym, tail_of, whole_in, ◌∙◌, ◌≤◌}
 use Rattle.sdd_run.proofs.ErasWithTables.{first_era, some_table, tables_are}
 use Rattle.sdd_run.proofs.Reported.{ended, if_ok, run_of}
-use Rattle.sdd_run.proofs.Starting.{all_allowed, starts}
+use Rattle.sdd_run.proofs.Starting.{all_allowed, few_events, starts}
 use Rattle.sdd_run.proofs.Whole.{rows_start}
-use Rattle.sdd_world.specs.Represents as standing
+use Rattle.sdd_schedule.specs.world.Represents as standing
 use Rattle.sdd_run.proofs.running.run_to_end.Goals as goal
 
 pub further-requires : goal.further-requires
@@ -43,7 +43,7 @@ carry_out-requires c =
     few_tms few_dms c.first_table.ensures c.as_slice.ensures refl made new in
     let lent = c.in_ok-further.ensures ∙ ap (λ cats. tail_of (eras_with_tables cats tables)) (c.eras.ensures ∙ c.requires.eras) in
     let allowed = all_allowed cat tables work sound c.requires.valid tabled c.into_vec.result.items c.in_ok-further.further.items c.into_vec.ensures lent in
-    (first_input cat tables work, [], begins, allowed)
+    (first_input cat tables work, [], begins, tt, refl, allowed, few_events cat work c.requires.valid c.into_vec.result.items c.into_vec.ensures)
 
 pub returns-clause-run : goal.returns-clause-run
 returns-clause-run c =
@@ -66,7 +66,7 @@ returns-clause-run c =
     let allowed = all_allowed cat tables work sound c.requires.valid tabled c.into_vec.result.items c.in_ok-further.further.items c.into_vec.ensures lent in
     if_ok c.carry_out.result _ _
     (λ world carried.
-    let all = carried (first_input cat tables work) [] begins allowed in
+    let all = carried (first_input cat tables work) [] begins tt refl allowed in
     run_of cat tables work c.into_vec.result.items c.into_vec.ensures world all.0 all.1)
     c.carry_out.ensures.log
 
@@ -89,4 +89,4 @@ returns-clause-limit c = λ is_limit.
     few_tms few_dms c.first_table.ensures c.as_slice.ensures refl made new in
     let lent = c.in_ok-further.ensures ∙ ap (λ cats. tail_of (eras_with_tables cats tables)) (c.eras.ensures ∙ c.requires.eras) in
     let allowed = all_allowed cat tables work sound c.requires.valid tabled c.into_vec.result.items c.in_ok-further.further.items c.into_vec.ensures lent in
-    ended cat tables work tabled c.into_vec.result.items c.into_vec.ensures (c.carry_out.ensures.limit is_limit (first_input cat tables work) [] begins allowed)
+    ended cat tables work tabled c.into_vec.result.items c.into_vec.ensures (c.carry_out.ensures.limit is_limit (first_input cat tables work) [] begins tt refl allowed)

@@ -1,0 +1,5 @@
+pub mod Events
+pub mod Places
+pub mod Schedules
+pub mod SoFar
+pub use Rattle.sdd_world.specs as world
