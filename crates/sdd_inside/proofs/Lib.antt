@@ -1,4 +1,5 @@
 pub mod Changes
+pub mod Digits
 pub mod EventWords
 pub mod Loops
 pub mod Members

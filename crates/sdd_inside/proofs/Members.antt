@@ -1,12 +1,45 @@
 -- Members of objects, put after what was written.
 use Rattle.std.proofs.Common.{◌≡◌, ℕ, List, [], ◌∷◌, ◌++◌, length, refl, sym, ap, ◌∙◌, append_assoc, append-nil, arith}
-use Rattle.sdd_inside.specs.Json.{also, array, member, object, triple, unless_empty}
+use Rattle.std.specs.Prelude.{codes}
+use Rattle.sdd_inside.specs.Json.{also, array, escaped, member, object, pair, quoted, separated, triple, unless_empty}
 
 -- a name and then the value of the member
 pub member_put : (out name value : List ℕ) → (out ++ also name []) ++ value ≡ out ++ also name value
 unfolding also
 member_put out name value =
     append_assoc out (also name []) value ∙ ap (λ (l : List ℕ). out ++ 44 ∷ 34 ∷ l) (append_assoc name (34 ∷ 58 ∷ []) value)
+
+-- what opens a list, its items and its end
+pub list_put : {A : Type 0} (out opening name : List ℕ) (f : A → List ℕ) (items : List A) → opening ≡ 44 ∷ member name (91 ∷ [])
+    → ((out ++ opening) ++ separated f items) ++ 93 ∷ [] ≡ out ++ also name (array f items)
+unfolding also
+list_put out opening name f items h =
+    ap (λ (l : List ℕ). ((out ++ l) ++ separated f items) ++ 93 ∷ []) h
+    ∙ append_assoc (out ++ also name (91 ∷ [])) (separated f items) (93 ∷ [])
+    ∙ append_assoc out (also name (91 ∷ [])) (separated f items ++ 93 ∷ [])
+    ∙ ap (λ (l : List ℕ). out ++ 44 ∷ 34 ∷ l) (append_assoc name (34 ∷ 58 ∷ 91 ∷ []) (separated f items ++ 93 ∷ []))
+
+-- the kind of a message and the key of its class, and then the name of the class, the key of the time and the time
+pub class_put : (out before kind word time : List ℕ) → before ≡ 44 ∷ member (codes "kind") (quoted kind) ++ codes ",\"class\":\""
+    → (((out ++ before) ++ escaped word) ++ codes "\",\"time\":") ++ time
+    ≡ out ++ (also (codes "kind") (quoted kind) ++ (also (codes "class") (quoted word) ++ also (codes "time") time))
+unfolding also
+class_put out before kind word time h =
+    let whole : List ℕ = 44 ∷ member (codes "kind") (quoted kind) in
+    ap (λ (l : List ℕ). (((out ++ l) ++ escaped word) ++ codes "\",\"time\":") ++ time) h
+    ∙ append_assoc ((out ++ (whole ++ codes ",\"class\":\"")) ++ escaped word) (codes "\",\"time\":") time
+    ∙ append_assoc (out ++ (whole ++ codes ",\"class\":\"")) (escaped word) (codes "\",\"time\":" ++ time)
+    ∙ append_assoc out (whole ++ codes ",\"class\":\"") (escaped word ++ (codes "\",\"time\":" ++ time))
+    ∙ ap (λ (l : List ℕ). out ++ l) (append_assoc whole (codes ",\"class\":\"") (escaped word ++ (codes "\",\"time\":" ++ time)))
+    ∙ ap (λ (l : List ℕ). out ++ (whole ++ (codes ",\"class\":\"" ++ l))) (sym (append_assoc (escaped word) (34 ∷ []) (codes ",\"time\":" ++ time)))
+
+-- a condition
+pub cond_put : (out word time : List ℕ)
+    → ((out ++ 91 ∷ 34 ∷ []) ++ escaped word) ++ 34 ∷ 44 ∷ (time ++ 93 ∷ []) ≡ out ++ pair (quoted word) time
+cond_put out word time =
+    append_assoc (out ++ 91 ∷ 34 ∷ []) (escaped word) (34 ∷ 44 ∷ (time ++ 93 ∷ []))
+    ∙ append_assoc out (91 ∷ 34 ∷ []) (escaped word ++ 34 ∷ 44 ∷ (time ++ 93 ∷ []))
+    ∙ ap (λ (l : List ℕ). out ++ 91 ∷ 34 ∷ l) (sym (append_assoc (escaped word) (34 ∷ []) (44 ∷ (time ++ 93 ∷ []))))
 
 -- nothing of an empty list
 pub none_put : {A : Type 0} (out name : List ℕ) (f : A → List ℕ) (items : List A) → length items ≡ 0 → out ≡ out ++ unless_empty name f items

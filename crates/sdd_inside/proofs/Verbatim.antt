@@ -1,11 +1,13 @@
 -- Texts in which each byte stands for itself are escaped as they are: printed numbers, among others.
 use Rattle.std.proofs.Common.{arith, inl, inr, lt-ltb, ne_eqb, sym}
 use Rattle.std.proofs.lemmas.Bool.{cases_lt, le-ltb, le-leb, leb-true}
+use Rattle.std.proofs.lemmas.Bool.Decides.{nat_tests}
 use Rattle.std.specs.Cmp.{first_so, second_so}
 use Rattle.std.specs.Fmt.{decimal, digit_glyph, digits, digits_onto, signed_decimal}
 use Rattle.std.specs.Prelude.{ℕ, ℤ, pos, negsuc, zero, suc, ◌≡◌, ◌<◌, ◌≤◌, ◌%◌, ◌/◌, ◌+◌, ◌==◌, ◌&&◌, Bool, true, false, if◌then◌else◌, List, [], ◌∷◌, ◌++◌, not, nat_le, refl}
 use Rattle.std.proofs.lemmas.List.Folds.{list_all-append}
 use Rattle.std.specs.List.{list_all}
+use Rattle.sdd_script.specs.All.{IsName, begins_with_letter, is_keyword, is_name_byte}
 use Rattle.sdd_inside.specs.Json.{escaped, escaped_byte, is_verbatim}
 
 abbrev pub AreVerbatim : List ℕ → Type 0
@@ -74,3 +76,22 @@ signed_verbatim (negsuc n) = decimal_verbatim (suc n)
 
 pub number_verbatim : (n : ℕ) → escaped (decimal n) ≡ decimal n
 number_verbatim n = verbatim (decimal n) (decimal_verbatim n)
+
+-- a name
+
+named_byte : (c : ℕ) → is_name_byte c ≡ true → is_verbatim c ≡ true
+named_byte c h = grind (arith, nat_tests)
+
+named_bytes : (name : List ℕ) → list_all is_name_byte name ≡ true → AreVerbatim name
+named_bytes [] h = refl
+named_bytes (c ∷ name) h =
+    rw (
+      named_byte c (first_so (is_name_byte c) (list_all is_name_byte name) h),
+      named_bytes name (second_so (is_name_byte c) (list_all is_name_byte name) h),
+    ) refl
+
+bytes_of : (name : List ℕ) → IsName name → list_all is_name_byte name ≡ true
+bytes_of name h = grind (arith, nat_tests, begins_with_letter, list_all, is_name_byte, is_keyword)
+
+pub name_verbatim : (name : List ℕ) → IsName name → list_all is_verbatim name ≡ true
+name_verbatim name h = named_bytes name (bytes_of name h)

@@ -3,6 +3,7 @@ pub mod Examples
 pub mod Json
 pub mod Lines
 pub mod Messages
+pub mod Pieces
 pub mod Spellings
 pub mod Standings
 pub mod Turns

@@ -1,10 +1,10 @@
 //! Strings as JSON spells them.
-ghost use Rattle.std.specs.Prelude.{◌≡◌, ◌++◌, ◌<◌, OnOk};
-ghost use Rattle.std.specs.Fmt.{decimal};
+ghost use Rattle.std.specs.Prelude.{◌≡◌, ◌++◌, ◌<◌, true, OnOk};
 ghost use Rattle.std.specs.List.{list_all};
 ghost use Rattle.sdd_inside.specs.Json.{hex_digit, is_verbatim, numbered, escaped_byte, escaped, quoted};
 
-use sdd_script::{NoMemory, put, put_count};
+use crate::pieces::put;
+use sdd_script::NoMemory;
 
 fn hex_digit(n: u8) -> u8
     requires { n < 16 }
@@ -95,26 +95,25 @@ pub fn put_escaped(out: &mut Vec<u8>, part: &[u8]) -> Result<(), NoMemory>
     put_bytes(out, part)
 }
 
-/// Puts a number.
-#[tactic(auto, using(std::proofs::lemmas::Fmt::decimal_digit))]
+/// Puts a part of a string in which each byte stands for itself.
+#[tactic(auto, using(crate::proofs::Verbatim::verbatim))]
 #[inline(always)]
-pub(crate) fn put_decimal(out: &mut Vec<u8>, number: u64) -> Result<(), NoMemory>
-    ensures { OnOk result (out.new.items ≡ out.old.items ++ decimal number) }
+pub(crate) fn put_verbatim(out: &mut Vec<u8>, part: &[u8]) -> Result<(), NoMemory>
+    requires { list_all is_verbatim part.now ≡ true }
+    ensures { OnOk result (out.new.items ≡ out.old.items ++ escaped part.now) }
 {
-    if number < 10 {
-        out.push(b'0' + number as u8)?;
-        return Ok(());
-    }
-    put_count(out, number)
+    put(out, part)
 }
 
-/// Puts a number, as a part of a string.
-#[tactic(auto, using(crate::proofs::Verbatim::number_verbatim))]
+/// Puts a string in which each byte stands for itself, as in a name.
 #[inline(always)]
-pub fn put_escaped_count(out: &mut Vec<u8>, number: u64) -> Result<(), NoMemory>
-    ensures { OnOk result (out.new.items ≡ out.old.items ++ escaped (decimal number)) }
+pub(crate) fn put_plain(out: &mut Vec<u8>, string: &[u8]) -> Result<(), NoMemory>
+    requires { list_all is_verbatim string.now ≡ true }
+    ensures { OnOk result (out.new.items ≡ out.old.items ++ quoted string.now) }
 {
-    put_decimal(out, number)
+    put(out, b"\"")?;
+    put_verbatim(out, string)?;
+    put(out, b"\"")
 }
 
 /// Puts a string. Costs time linear in it.

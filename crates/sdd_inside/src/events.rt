@@ -1,5 +1,6 @@
 //! Events as a workload spells them.
 ghost use Rattle.std.specs.Prelude.{◌≡◌, ◌++◌, ◌∷◌, [], codes, true, OnOk};
+ghost use Rattle.std.specs.Fmt.{decimal};
 ghost use Rattle.std.specs.List.{list_all};
 ghost use Rattle.sdd_script.specs.words.Words.{line_bytes, spaced};
 ghost use Rattle.sdd_script.specs.All.{Plain};
@@ -7,9 +8,11 @@ ghost use Rattle.sdd_script.specs.Spelling.{site_word, count_word, event_words};
 ghost use Rattle.sdd_inside.specs.Json.{escaped, is_verbatim};
 ghost use Rattle.sdd_inside.specs.Words.{event_json};
 
-use crate::escape::{put_decimal, put_escaped};
+use crate::escape::put_verbatim;
 use crate::names::txn_name;
-use sdd_script::{Event, NoMemory, Site, Txn, put};
+use crate::numbers::put_decimal;
+use crate::pieces::put;
+use sdd_script::{Event, NoMemory, Site, Txn};
 
 #[inline(always)]
 fn put_number(out: &mut Vec<u8>, number: u32) -> Result<(), NoMemory>
@@ -19,19 +22,29 @@ fn put_number(out: &mut Vec<u8>, number: u32) -> Result<(), NoMemory>
     put_decimal(out, u64::from(number))
 }
 
+/// Puts the word of a module after a space: in one piece, since no number has more than two digits.
+#[tactic(auto, using(crate::proofs::Digits::one, crate::proofs::Digits::two))]
+#[inline(always)]
+fn put_module(out: &mut Vec<u8>, letter: u8, number: u8) -> Result<(), NoMemory>
+    ensures { OnOk result (out.new.items ≡ out.old.items ++ 32 ∷ letter ∷ decimal number) }
+{
+    if number < 10 {
+        return put(out, &[b' ', letter, b'0' + number]);
+    }
+    if number < 100 {
+        return put(out, &[b' ', letter, b'0' + number / 10, b'0' + number % 10]);
+    }
+    put(out, &[b' ', letter])?;
+    put_decimal(out, u64::from(number))
+}
+
 fn put_site(out: &mut Vec<u8>, site: Site) -> Result<(), NoMemory>
     ensures { OnOk result (out.new.items ≡ out.old.items ++ spaced (site_word site)) }
 {
     match site {
         Site::U => put(out, b" U"),
-        Site::T(tm) => {
-            put(out, b" T")?;
-            put_decimal(out, u64::from(tm.0))
-        }
-        Site::D(dm) => {
-            put(out, b" D")?;
-            put_decimal(out, u64::from(dm.0))
-        }
+        Site::T(tm) => put_module(out, b'T', tm.0),
+        Site::D(dm) => put_module(out, b'D', dm.0),
     }
 }
 
@@ -98,13 +111,14 @@ fn put_tick(out: &mut Vec<u8>, key: &[u8], site: Site, n: u32) -> Result<(), NoM
 
 #[tactic(auto, using(crate::proofs::EventWords::put_of_name))]
 fn put_submit(out: &mut Vec<u8>, name: &[u8]) -> Result<(), NoMemory>
+    requires { list_all is_verbatim name.now ≡ true }
     ensures { OnOk result (
         out.new.items
         ≡ out.old.items
         ++ escaped (line_bytes (Plain (codes "submit") ∷ Plain name.now ∷ []))) }
 {
     put(out, b"submit ")?;
-    put_escaped(out, name)
+    put_verbatim(out, name)
 }
 
 fn put_words(out: &mut Vec<u8>, txns: &[Txn], event: Event) -> Result<(), NoMemory>

@@ -7,15 +7,16 @@ ghost use Rattle.sdd_inside.specs.Messages.{ack_json};
 ghost use Rattle.sdd_inside.specs.Lines.{taken_json, found_members, round_member, handed_json, put_json, queue_json, pipe_moves, pipe_json, row_delta_json, place_members, event_members, link_members, module_members, site_members, changes_of, line, copy_json, module_counts, beginning};
 
 use crate::delta::{Delta, Found, Handed, PipeDelta, Put, QueueDelta, RowDelta, Taken};
-use crate::escape::put_decimal;
 use crate::events::put_event;
 use crate::messages::put_ack;
+use crate::numbers::put_decimal;
+use crate::pieces::put;
 use crate::to_json::{
     ToJson, put_also, put_if, put_name, put_opening, put_positive, tell_also, tell_array,
     tell_first, tell_further, tell_list, tell_some, tell_triple, tell_two,
 };
 use sdd_report::CopyTable;
-use sdd_script::{Catalogue, Event, NoMemory, Txn, put};
+use sdd_script::{Catalogue, Event, NoMemory, Txn};
 
 fn put_taken(out: &mut Vec<u8>, packet: &Taken) -> Result<(), NoMemory>
     ensures { OnOk result (out.new.items ≡ out.old.items ++ taken_json packet.now) }
@@ -30,7 +31,7 @@ fn put_taken(out: &mut Vec<u8>, packet: &Taken) -> Result<(), NoMemory>
 fn put_lost(out: &mut Vec<u8>, packet: &Taken) -> Result<(), NoMemory>
     ensures { OnOk result (out.new.items ≡ out.old.items ++ also (codes "took") (taken_json packet.now)) }
 {
-    put_name(out, b"took")?;
+    put_name(out, b",\"took\":")?;
     put_taken(out, packet)
 }
 
@@ -38,7 +39,7 @@ fn put_lost(out: &mut Vec<u8>, packet: &Taken) -> Result<(), NoMemory>
 fn put_took_ack(out: &mut Vec<u8>, upto: u32) -> Result<(), NoMemory>
     ensures { OnOk result (out.new.items ≡ out.old.items ++ also (codes "took") (ack_json upto)) }
 {
-    put_name(out, b"took")?;
+    put_name(out, b",\"took\":")?;
     put_ack(out, upto)
 }
 
@@ -48,8 +49,8 @@ fn put_arrived(out: &mut Vec<u8>, number: u32, delivered: u32) -> Result<(), NoM
         ≡ out.old.items
         ++ (also (codes "took") (decimal number) ++ also (codes "delivered") (decimal delivered))) }
 {
-    put_also(out, b"took", u64::from(number))?;
-    put_also(out, b"delivered", u64::from(delivered))
+    put_also(out, b",\"took\":", u64::from(number))?;
+    put_also(out, b",\"delivered\":", u64::from(delivered))
 }
 
 fn put_acknowledged(out: &mut Vec<u8>, upto: u32, acked: u32) -> Result<(), NoMemory>
@@ -59,14 +60,14 @@ fn put_acknowledged(out: &mut Vec<u8>, upto: u32, acked: u32) -> Result<(), NoMe
         ++ (also (codes "took") (ack_json upto) ++ also (codes "acked") (decimal acked))) }
 {
     put_took_ack(out, upto)?;
-    put_also(out, b"acked", u64::from(acked))
+    put_also(out, b",\"acked\":", u64::from(acked))
 }
 
 fn put_found(out: &mut Vec<u8>, found: &Found) -> Result<(), NoMemory>
     ensures { OnOk result (out.new.items ≡ out.old.items ++ found_members found.now) }
 {
     match found {
-        Found::Nothing => put_if(out, b"nothing", true),
+        Found::Nothing => put_if(out, b",\"nothing\":true", true),
         Found::Something => Ok(()),
         Found::Lost(packet) => put_lost(out, packet),
         Found::Arrived { number, delivered } => put_arrived(out, *number, *delivered),
@@ -78,7 +79,7 @@ fn put_round(out: &mut Vec<u8>, round: Option<u32>) -> Result<(), NoMemory>
     ensures { OnOk result (out.new.items ≡ out.old.items ++ round_member round) }
 {
     match round {
-        Some(round) => put_also(out, b"round", u64::from(round)),
+        Some(round) => put_also(out, b",\"round\":", u64::from(round)),
         None => Ok(()),
     }
 }
@@ -107,9 +108,9 @@ impl ToJson for QueueDelta {
 
     #[tactic(auto, using(crate::proofs::Members::object_of_two))]
     fn tell(&self, out: &mut Vec<u8>, catalogue: &Catalogue, txns: &[Txn]) -> Result<(), NoMemory> {
-        tell_first(out, b"class", &self.class, catalogue, txns)?;
-        tell_some(out, b"in", &self.came, catalogue, txns)?;
-        put_positive(out, b"out", self.gone)?;
+        tell_first(out, b"{\"class\":", &self.class, catalogue, txns)?;
+        tell_some(out, b",\"in\":[", &self.came, catalogue, txns)?;
+        put_positive(out, b",\"out\":", self.gone)?;
         put(out, b"}")
     }
 }
@@ -122,9 +123,9 @@ fn put_moves(
 ) -> Result<(), NoMemory>
     ensures { OnOk result (out.new.items ≡ out.old.items ++ pipe_moves catalogue.now txns.now pipe.now) }
 {
-    tell_some(out, b"in", &pipe.came, catalogue, txns)?;
-    put_positive(out, b"out", pipe.processed)?;
-    put_also(out, b"passed", pipe.passed.0)
+    tell_some(out, b",\"in\":[", &pipe.came, catalogue, txns)?;
+    put_positive(out, b",\"out\":", pipe.processed)?;
+    put_also(out, b",\"passed\":", pipe.passed.0)
 }
 
 impl ToJson for PipeDelta {
@@ -132,8 +133,8 @@ impl ToJson for PipeDelta {
 
     #[tactic(auto, using(crate::proofs::Members::object_of_two))]
     fn tell(&self, out: &mut Vec<u8>, catalogue: &Catalogue, txns: &[Txn]) -> Result<(), NoMemory> {
-        tell_first(out, b"at", &self.dm, catalogue, txns)?;
-        tell_also(out, b"class", &self.class, catalogue, txns)?;
+        tell_first(out, b"{\"at\":", &self.dm, catalogue, txns)?;
+        tell_also(out, b",\"class\":", &self.class, catalogue, txns)?;
         put_moves(out, self, catalogue, txns)?;
         put(out, b"}")
     }
@@ -154,7 +155,7 @@ impl ToJson for RowDelta {
 fn put_places(out: &mut Vec<u8>, delta: &Delta) -> Result<(), NoMemory>
     ensures { OnOk result (out.new.items ≡ out.old.items ++ place_members delta.now) }
 {
-    put_also(out, b"of", u64::from(delta.scheduled))?;
+    put_also(out, b",\"of\":", u64::from(delta.scheduled))?;
     put_round(out, delta.round)
 }
 
@@ -162,7 +163,7 @@ fn put_places(out: &mut Vec<u8>, delta: &Delta) -> Result<(), NoMemory>
 fn put_do(out: &mut Vec<u8>, txns: &[Txn], event: Event) -> Result<(), NoMemory>
     ensures { OnOk result (out.new.items ≡ out.old.items ++ also (codes "do") (event_json txns.now event)) }
 {
-    put_name(out, b"do")?;
+    put_name(out, b",\"do\":")?;
     put_event(out, txns, event)
 }
 
@@ -181,8 +182,8 @@ fn put_links(
 ) -> Result<(), NoMemory>
     ensures { OnOk result (out.new.items ≡ out.old.items ++ link_members catalogue.now txns.now delta.now) }
 {
-    tell_some(out, b"handed", &delta.handed, catalogue, txns)?;
-    tell_some(out, b"put", &delta.put, catalogue, txns)
+    tell_some(out, b",\"handed\":[", &delta.handed, catalogue, txns)?;
+    tell_some(out, b",\"put\":[", &delta.put, catalogue, txns)
 }
 
 fn put_modules(
@@ -193,8 +194,8 @@ fn put_modules(
 ) -> Result<(), NoMemory>
     ensures { OnOk result (out.new.items ≡ out.old.items ++ module_members catalogue.now txns.now delta.now) }
 {
-    tell_some(out, b"queues", &delta.queues, catalogue, txns)?;
-    tell_some(out, b"pipes", &delta.pipes, catalogue, txns)
+    tell_some(out, b",\"queues\":[", &delta.queues, catalogue, txns)?;
+    tell_some(out, b",\"pipes\":[", &delta.pipes, catalogue, txns)
 }
 
 fn put_sites(
@@ -205,8 +206,8 @@ fn put_sites(
 ) -> Result<(), NoMemory>
     ensures { OnOk result (out.new.items ≡ out.old.items ++ site_members catalogue.now txns.now delta.now) }
 {
-    tell_some(out, b"rows", &delta.rows, catalogue, txns)?;
-    tell_some(out, b"sites", &delta.sites, catalogue, txns)
+    tell_some(out, b",\"rows\":[", &delta.rows, catalogue, txns)?;
+    tell_some(out, b",\"sites\":[", &delta.sites, catalogue, txns)
 }
 
 fn put_changes(
@@ -234,7 +235,7 @@ pub fn put_line(
 ) -> Result<(), NoMemory>
     ensures { OnOk result (out.new.items ≡ out.old.items ++ line catalogue.now txns.now delta.now) }
 {
-    put_opening(out, b"event", u64::from(delta.number))?;
+    put_opening(out, b"{\"event\":", u64::from(delta.number))?;
     put_places(out, delta)?;
     put_event_members(out, delta, txns)?;
     put_changes(out, delta, catalogue, txns)?;
@@ -246,9 +247,9 @@ impl ToJson for CopyTable {
 
     #[tactic(auto, using(crate::proofs::Members::object_of_two))]
     fn tell(&self, out: &mut Vec<u8>, catalogue: &Catalogue, txns: &[Txn]) -> Result<(), NoMemory> {
-        tell_first(out, b"at", &self.dm, catalogue, txns)?;
-        tell_also(out, b"fragment", &self.frag, catalogue, txns)?;
-        tell_list(out, b"rows", self.rows.as_slice(), catalogue, txns)?;
+        tell_first(out, b"{\"at\":", &self.dm, catalogue, txns)?;
+        tell_also(out, b",\"fragment\":", &self.frag, catalogue, txns)?;
+        tell_list(out, b",\"rows\":[", self.rows.as_slice(), catalogue, txns)?;
         put(out, b"}")
     }
 }
@@ -256,8 +257,8 @@ impl ToJson for CopyTable {
 fn put_counts(out: &mut Vec<u8>, catalogue: &Catalogue) -> Result<(), NoMemory>
     ensures { OnOk result (out.new.items ≡ out.old.items ++ module_counts catalogue.now) }
 {
-    put_also(out, b"tms", u64::from(catalogue.tms()))?;
-    put_also(out, b"dms", u64::from(catalogue.dms()))
+    put_also(out, b",\"tms\":", u64::from(catalogue.tms()))?;
+    put_also(out, b",\"dms\":", u64::from(catalogue.dms()))
 }
 
 /// Puts the first line: how many modules there are, and what the copies begin with, which ascend by
@@ -273,8 +274,8 @@ pub fn put_beginning(
 ) -> Result<(), NoMemory>
     ensures { OnOk result (out.new.items ≡ out.old.items ++ beginning catalogue.now txns.now copies.now) }
 {
-    put_opening(out, b"inside", 1)?;
+    put_opening(out, b"{\"inside\":", 1)?;
     put_counts(out, catalogue)?;
-    tell_list(out, b"copies", copies, catalogue, txns)?;
+    tell_list(out, b",\"copies\":[", copies, catalogue, txns)?;
     put(out, b"}\n")
 }

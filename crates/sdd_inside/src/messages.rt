@@ -1,51 +1,19 @@
 //! Packets and their messages in a line.
-ghost use Rattle.std.specs.Prelude.{◌≡◌, ◌++◌, codes, length, OnOk};
-ghost use Rattle.sdd_inside.specs.Json.{array, also};
-ghost use Rattle.sdd_inside.specs.Messages.{of_kind, at_time, of_class, rows_of, rows_json, values_json, message_json, ack_json, packet_json};
+ghost use Rattle.std.specs.Prelude.{◌≡◌, ◌++◌, ◌∷◌, codes, length, OnOk};
+ghost use Rattle.sdd_inside.specs.Json.{array, also, quoted, member};
+ghost use Rattle.sdd_inside.specs.Pieces.{kind_before};
+ghost use Rattle.sdd_inside.specs.Messages.{of_class, rows_of, rows_json, values_json, message_json, ack_json, packet_json};
 ghost use Rattle.sdd_inside.specs.Words.{time_json, class_json, txn_json, attempt_json, cond_json, change_json};
 
 use crate::delta::InFlight;
-use crate::escape::{put_decimal, put_quoted};
+use crate::kinds::{put_class, put_kind, put_time};
+use crate::numbers::put_decimal;
+use crate::pieces::put;
 use crate::to_json::{ToJson, put_also, put_name, put_opening, tell_also, tell_list};
 use crate::words::put_attempt;
 use itoa::Buffer;
-use sdd_script::{Catalogue, Changes, ClassNo, Conds, NoMemory, Ts, Txn, TxnNo, put};
+use sdd_script::{Catalogue, Changes, ClassNo, Conds, NoMemory, Ts, Txn, TxnNo};
 use sdd_wire::{Msg, UseCounts, UseRows, ValueList};
-
-#[tactic(auto, using(crate::proofs::Members::member_put))]
-#[inline(always)]
-fn put_kind(out: &mut Vec<u8>, kind: &[u8]) -> Result<(), NoMemory>
-    ensures { OnOk result (out.new.items ≡ out.old.items ++ of_kind kind.now) }
-{
-    put_name(out, b"kind")?;
-    put_quoted(out, kind)
-}
-
-/// Puts the kind and the time of a message without a class.
-#[inline(always)]
-fn put_time(out: &mut Vec<u8>, kind: &[u8], time: Ts) -> Result<(), NoMemory>
-    ensures { OnOk result (out.new.items ≡ out.old.items ++ at_time kind.now time) }
-{
-    put_kind(out, kind)?;
-    put_also(out, b"time", time.0)
-}
-
-/// Puts the kind, the class and the time of a message.
-#[inline(always)]
-fn put_class(
-    out: &mut Vec<u8>,
-    kind: &[u8],
-    catalogue: &Catalogue,
-    txns: &[Txn],
-    class: ClassNo,
-    time: Ts,
-) -> Result<(), NoMemory>
-    ensures { OnOk result (out.new.items ≡ out.old.items ++ of_class kind.now catalogue.now txns.now class time) }
-{
-    put_kind(out, kind)?;
-    tell_also(out, b"class", &class, catalogue, txns)?;
-    put_also(out, b"time", time.0)
-}
 
 /// Puts an attempt as a member.
 #[tactic(auto, using(crate::proofs::Members::member_put))]
@@ -58,7 +26,7 @@ pub(crate) fn put_attempt_member(
 ) -> Result<(), NoMemory>
     ensures { OnOk result (out.new.items ≡ out.old.items ++ also (codes "txn") (attempt_json txns.now txn attempt)) }
 {
-    put_name(out, b"txn")?;
+    put_name(out, b",\"txn\":")?;
     put_attempt(out, txns, txn, attempt)
 }
 
@@ -80,9 +48,16 @@ fn put_read(
         ++ (also (codes "txn") (attempt_json txns.now txn attempt)
         ++ also (codes "conds") (array (cond_json catalogue.now txns.now) conds.now)))) }
 {
-    put_class(out, b"READ", catalogue, txns, class, time)?;
+    put_class(
+        out,
+        b",\"kind\":\"READ\",\"class\":\"",
+        catalogue,
+        txns,
+        class,
+        time,
+    )?;
     put_attempt_member(out, txns, txn, attempt)?;
-    tell_list(out, b"conds", conds.as_slice(), catalogue, txns)
+    tell_list(out, b",\"conds\":[", conds.as_slice(), catalogue, txns)
 }
 
 /// Puts a WRITE, with its transaction and its changes.
@@ -102,9 +77,16 @@ fn put_write(
         ++ (also (codes "txn") (txn_json catalogue.now txns.now txn)
         ++ also (codes "changes") (array (change_json catalogue.now txns.now) changes.now)))) }
 {
-    put_class(out, b"WRITE", catalogue, txns, class, time)?;
-    tell_also(out, b"txn", &txn, catalogue, txns)?;
-    tell_list(out, b"changes", changes.as_slice(), catalogue, txns)
+    put_class(
+        out,
+        b",\"kind\":\"WRITE\",\"class\":\"",
+        catalogue,
+        txns,
+        class,
+        time,
+    )?;
+    tell_also(out, b",\"txn\":", &txn, catalogue, txns)?;
+    tell_list(out, b",\"changes\":[", changes.as_slice(), catalogue, txns)
 }
 
 /// Puts a REJECT, with the class and the time of the WRITE for which the READ is rejected.
@@ -124,9 +106,16 @@ fn put_reject(
         ++ (also (codes "by") (class_json catalogue.now txns.now by)
         ++ also (codes "write") (time_json catalogue.now txns.now write)))) }
 {
-    put_class(out, b"REJECT", catalogue, txns, class, time)?;
-    tell_also(out, b"by", &by, catalogue, txns)?;
-    tell_also(out, b"write", &write, catalogue, txns)
+    put_class(
+        out,
+        b",\"kind\":\"REJECT\",\"class\":\"",
+        catalogue,
+        txns,
+        class,
+        time,
+    )?;
+    tell_also(out, b",\"by\":", &by, catalogue, txns)?;
+    tell_also(out, b",\"write\":", &write, catalogue, txns)
 }
 
 /// The rows of all uses together.
@@ -145,46 +134,50 @@ fn put_rows(out: &mut Vec<u8>, rows: u128) -> Result<(), NoMemory>
     ensures { OnOk result (out.new.items ≡ out.old.items ++ rows_json rows) }
 {
     let mut buffer = Buffer::new();
-    put_name(out, b"rows")?;
+    put_name(out, b",\"rows\":")?;
     put(out, buffer.format(rows).as_bytes())
 }
 
 /// Puts a message that tells how many rows there are.
 fn put_counted(
     out: &mut Vec<u8>,
-    kind: &[u8],
+    before: &[u8],
     catalogue: &Catalogue,
     txns: &[Txn],
     class: ClassNo,
     time: Ts,
     rows: u128,
 ) -> Result<(), NoMemory>
+    requires { before.now
+        ≡ 44 ∷ member (codes "kind") (quoted (kind_before before.now)) ++ codes ",\"class\":\"" }
     ensures { OnOk result (
         out.new.items
         ≡ out.old.items
-        ++ (of_class kind.now catalogue.now txns.now class time ++ rows_json rows)) }
+        ++ (of_class (kind_before before.now) catalogue.now txns.now class time ++ rows_json rows)) }
 {
-    put_class(out, kind, catalogue, txns, class, time)?;
+    put_class(out, before, catalogue, txns, class, time)?;
     put_rows(out, rows)
 }
 
 /// Puts a message that has values.
 fn put_valued(
     out: &mut Vec<u8>,
-    kind: &[u8],
+    before: &[u8],
     catalogue: &Catalogue,
     txns: &[Txn],
     class: ClassNo,
     time: Ts,
     values: &ValueList,
 ) -> Result<(), NoMemory>
+    requires { before.now
+        ≡ 44 ∷ member (codes "kind") (quoted (kind_before before.now)) ++ codes ",\"class\":\"" }
     ensures { OnOk result (
         out.new.items
         ≡ out.old.items
-        ++ (of_class kind.now catalogue.now txns.now class time ++ values_json (length values.now))) }
+        ++ (of_class (kind_before before.now) catalogue.now txns.now class time ++ values_json (length values.now))) }
 {
-    put_class(out, kind, catalogue, txns, class, time)?;
-    put_also(out, b"values", values.as_slice().len() as u64)
+    put_class(out, before, catalogue, txns, class, time)?;
+    put_also(out, b",\"values\":", values.as_slice().len() as u64)
 }
 
 fn put_ready(
@@ -201,7 +194,15 @@ fn put_ready(
         ++ (of_class (codes "READY") catalogue.now txns.now class time ++ rows_json (rows_of counts.now))) }
 {
     let rows = rows_of(counts.as_slice());
-    put_counted(out, b"READY", catalogue, txns, class, time, rows)
+    put_counted(
+        out,
+        b",\"kind\":\"READY\",\"class\":\"",
+        catalogue,
+        txns,
+        class,
+        time,
+        rows,
+    )
 }
 
 fn put_shipped(
@@ -218,7 +219,15 @@ fn put_shipped(
         ++ (of_class (codes "ROWS") catalogue.now txns.now class time ++ rows_json (length rows.now))) }
 {
     let rows = rows.as_slice().len() as u128;
-    put_counted(out, b"ROWS", catalogue, txns, class, time, rows)
+    put_counted(
+        out,
+        b",\"kind\":\"ROWS\",\"class\":\"",
+        catalogue,
+        txns,
+        class,
+        time,
+        rows,
+    )
 }
 
 impl ToJson for Msg {
@@ -244,20 +253,43 @@ impl ToJson for Msg {
                 write,
             } => put_reject(out, catalogue, txns, *class, *ts, *by, *write),
             Msg::Fetch { ts, class, .. } => {
-                put_class(out, b"FETCH", catalogue, txns, *class, *ts)
+                put_class(
+                    out,
+                    b",\"kind\":\"FETCH\",\"class\":\"",
+                    catalogue,
+                    txns,
+                    *class,
+                    *ts,
+                )
             }
             Msg::Values {
                 ts,
                 class,
                 values,
                 ..
-            } => put_valued(out, b"VALUES", catalogue, txns, *class, *ts, values),
+            } => put_valued(
+                out,
+                b",\"kind\":\"VALUES\",\"class\":\"",
+                catalogue,
+                txns,
+                *class,
+                *ts,
+                values,
+            ),
             Msg::Reduce {
                 ts,
                 class,
                 values,
                 ..
-            } => put_valued(out, b"REDUCE", catalogue, txns, *class, *ts, values),
+            } => put_valued(
+                out,
+                b",\"kind\":\"REDUCE\",\"class\":\"",
+                catalogue,
+                txns,
+                *class,
+                *ts,
+                values,
+            ),
             Msg::Reduced {
                 ts,
                 class,
@@ -265,14 +297,21 @@ impl ToJson for Msg {
                 ..
             } => put_counted(
                 out,
-                b"REDUCED",
+                b",\"kind\":\"REDUCED\",\"class\":\"",
                 catalogue,
                 txns,
                 *class,
                 *ts,
                 *count as u128,
             ),
-            Msg::Ship { ts, class } => put_class(out, b"SHIP", catalogue, txns, *class, *ts),
+            Msg::Ship { ts, class } => put_class(
+                out,
+                b",\"kind\":\"SHIP\",\"class\":\"",
+                catalogue,
+                txns,
+                *class,
+                *ts,
+            ),
             Msg::Rows { ts, class, rows } => {
                 put_shipped(out, catalogue, txns, *class, *ts, rows)
             }
@@ -282,12 +321,26 @@ impl ToJson for Msg {
                 txn,
                 changes,
             } => put_write(out, catalogue, txns, *class, *ts, *txn, changes),
-            Msg::Null { class, time } => put_class(out, b"NULL", catalogue, txns, *class, *time),
-            Msg::Ask { class, time } => put_class(out, b"ASK", catalogue, txns, *class, *time),
-            Msg::Hold => put_kind(out, b"HOLD"),
-            Msg::Held { time } => put_time(out, b"HELD", *time),
-            Msg::Done { ts } => put_time(out, b"DONE", *ts),
-            Msg::Release { ts } => put_time(out, b"RELEASE", *ts),
+            Msg::Null { class, time } => put_class(
+                out,
+                b",\"kind\":\"NULL\",\"class\":\"",
+                catalogue,
+                txns,
+                *class,
+                *time,
+            ),
+            Msg::Ask { class, time } => put_class(
+                out,
+                b",\"kind\":\"ASK\",\"class\":\"",
+                catalogue,
+                txns,
+                *class,
+                *time,
+            ),
+            Msg::Hold => put_kind(out, b",\"kind\":\"HOLD\""),
+            Msg::Held { time } => put_time(out, b",\"kind\":\"HELD\"", *time),
+            Msg::Done { ts } => put_time(out, b",\"kind\":\"DONE\"", *ts),
+            Msg::Release { ts } => put_time(out, b",\"kind\":\"RELEASE\"", *ts),
         }
     }
 }
@@ -298,7 +351,7 @@ impl ToJson for Msg {
 pub(crate) fn put_ack(out: &mut Vec<u8>, upto: u32) -> Result<(), NoMemory>
     ensures { OnOk result (out.new.items ≡ out.old.items ++ ack_json upto) }
 {
-    put_opening(out, b"ack", u64::from(upto))?;
+    put_opening(out, b"{\"ack\":", u64::from(upto))?;
     put(out, b"}")
 }
 
@@ -315,7 +368,7 @@ fn put_message(
         out.new.items
         ≡ out.old.items ++ packet_json catalogue.now txns.now (InFlight.First number message.now)) }
 {
-    put_opening(out, b"n", u64::from(number))?;
+    put_opening(out, b"{\"n\":", u64::from(number))?;
     message.tell(out, catalogue, txns)?;
     put(out, b"}")
 }

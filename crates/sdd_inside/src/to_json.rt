@@ -1,11 +1,13 @@
 //! What a line tells, as JSON: values, lists of them, and members of objects.
-ghost use Rattle.std.specs.Prelude.{ℕ, List, ◌≡◌, ◌++◌, ◌∷◌, [], flat_map, MatchOption, OnOk};
+ghost use Rattle.std.specs.Prelude.{ℕ, List, ◌≡◌, ◌++◌, ◌∷◌, [], codes, flat_map, MatchOption, OnOk};
 ghost use Rattle.std.specs.Fmt.{decimal};
 ghost use Rattle.sdd_script.specs.All.{Catalogue as Names, Txn as Named};
-ghost use Rattle.sdd_inside.specs.Json.{separated, further, array, pair, triple, member, also, unless_empty, if_true, unless_zero};
+ghost use Rattle.sdd_inside.specs.Json.{separated, further, array, triple, member, also, unless_empty, if_true, unless_zero};
+ghost use Rattle.sdd_inside.specs.Pieces.{name_in, list_name_in, flag_name_in};
 
-use crate::escape::put_decimal;
-use sdd_script::{Catalogue, Listed, NoMemory, Txn, put};
+use crate::numbers::put_decimal;
+use crate::pieces::put;
+use sdd_script::{Catalogue, Listed, NoMemory, Txn};
 
 /// What can stand in a line.
 pub(crate) trait ToJson: Sized {
@@ -89,25 +91,6 @@ pub(crate) fn tell_array<T: ToJson>(
     put(out, b"]")
 }
 
-/// Puts a list of two values.
-#[inline(always)]
-pub(crate) fn tell_pair<A: ToJson, B: ToJson>(
-    out: &mut Vec<u8>,
-    a: &A,
-    b: &B,
-    catalogue: &Catalogue,
-    txns: &[Txn],
-) -> Result<(), NoMemory>
-    ensures { OnOk result (
-        out.new.items
-        ≡ out.old.items ++ pair (A.json catalogue.now txns.now a.now) (B.json catalogue.now txns.now b.now)) }
-{
-    put(out, b"[")?;
-    a.tell(out, catalogue, txns)?;
-    tell_further(out, b, catalogue, txns)?;
-    put(out, b"]")
-}
-
 /// Puts the first two values of a longer list.
 #[inline(always)]
 pub(crate) fn tell_two<A: ToJson, B: ToJson>(
@@ -150,14 +133,16 @@ pub(crate) fn tell_triple<A: ToJson, B: ToJson, C: ToJson>(
     put(out, b"]")
 }
 
+// A name is put with all that stands around it, as `,"time":`, which is called the key: so it is one
+// piece, and not three.
+
 /// Puts the beginning of an object and the name of its first member.
 #[inline(always)]
-fn put_first(out: &mut Vec<u8>, name: &[u8]) -> Result<(), NoMemory>
-    ensures { OnOk result (out.new.items ≡ out.old.items ++ 123 ∷ member name.now []) }
+fn put_first(out: &mut Vec<u8>, key: &[u8]) -> Result<(), NoMemory>
+    requires { key.now ≡ 123 ∷ member (name_in key.now) [] }
+    ensures { OnOk result (out.new.items ≡ out.old.items ++ 123 ∷ member (name_in key.now) []) }
 {
-    put(out, b"{\"")?;
-    put(out, name)?;
-    put(out, b"\":")
+    put(out, key)
 }
 
 /// Puts the beginning of an object and its first member.
@@ -165,38 +150,39 @@ fn put_first(out: &mut Vec<u8>, name: &[u8]) -> Result<(), NoMemory>
 #[inline(always)]
 pub(crate) fn tell_first<T: ToJson>(
     out: &mut Vec<u8>,
-    name: &[u8],
+    key: &[u8],
     value: &T,
     catalogue: &Catalogue,
     txns: &[Txn],
 ) -> Result<(), NoMemory>
+    requires { key.now ≡ 123 ∷ member (name_in key.now) [] }
     ensures { OnOk result (
         out.new.items
-        ≡ out.old.items ++ 123 ∷ member name.now (T.json catalogue.now txns.now value.now)) }
+        ≡ out.old.items ++ 123 ∷ member (name_in key.now) (T.json catalogue.now txns.now value.now)) }
 {
-    put_first(out, name)?;
+    put_first(out, key)?;
     value.tell(out, catalogue, txns)
 }
 
 /// Puts the beginning of an object and its first member, which is a number.
 #[tactic(auto, using(crate::proofs::Members::first_put))]
 #[inline(always)]
-pub(crate) fn put_opening(out: &mut Vec<u8>, name: &[u8], number: u64) -> Result<(), NoMemory>
-    ensures { OnOk result (out.new.items ≡ out.old.items ++ 123 ∷ member name.now (decimal number)) }
+pub(crate) fn put_opening(out: &mut Vec<u8>, key: &[u8], number: u64) -> Result<(), NoMemory>
+    requires { key.now ≡ 123 ∷ member (name_in key.now) [] }
+    ensures { OnOk result (out.new.items ≡ out.old.items ++ 123 ∷ member (name_in key.now) (decimal number)) }
 {
-    put_first(out, name)?;
+    put_first(out, key)?;
     put_decimal(out, number)
 }
 
 /// Puts the name of a further member.
 #[tactic(auto, unfolding(crate::specs::Json::also))]
 #[inline(always)]
-pub(crate) fn put_name(out: &mut Vec<u8>, name: &[u8]) -> Result<(), NoMemory>
-    ensures { OnOk result (out.new.items ≡ out.old.items ++ also name.now []) }
+pub(crate) fn put_name(out: &mut Vec<u8>, key: &[u8]) -> Result<(), NoMemory>
+    requires { key.now ≡ 44 ∷ member (name_in key.now) [] }
+    ensures { OnOk result (out.new.items ≡ out.old.items ++ also (name_in key.now) []) }
 {
-    put(out, b",\"")?;
-    put(out, name)?;
-    put(out, b"\":")
+    put(out, key)
 }
 
 /// Puts a further member.
@@ -204,35 +190,38 @@ pub(crate) fn put_name(out: &mut Vec<u8>, name: &[u8]) -> Result<(), NoMemory>
 #[inline(always)]
 pub(crate) fn tell_also<T: ToJson>(
     out: &mut Vec<u8>,
-    name: &[u8],
+    key: &[u8],
     value: &T,
     catalogue: &Catalogue,
     txns: &[Txn],
 ) -> Result<(), NoMemory>
+    requires { key.now ≡ 44 ∷ member (name_in key.now) [] }
     ensures { OnOk result (
         out.new.items
-        ≡ out.old.items ++ also name.now (T.json catalogue.now txns.now value.now)) }
+        ≡ out.old.items ++ also (name_in key.now) (T.json catalogue.now txns.now value.now)) }
 {
-    put_name(out, name)?;
+    put_name(out, key)?;
     value.tell(out, catalogue, txns)
 }
 
 /// Puts a further member that is a list.
-#[tactic(auto, using(crate::proofs::Members::member_put))]
+#[tactic(auto, using(crate::proofs::Members::list_put))]
 #[inline(always)]
 pub(crate) fn tell_list<T: ToJson>(
     out: &mut Vec<u8>,
-    name: &[u8],
+    key: &[u8],
     items: &[T],
     catalogue: &Catalogue,
     txns: &[Txn],
 ) -> Result<(), NoMemory>
+    requires { key.now ≡ 44 ∷ member (list_name_in key.now) (91 ∷ []) }
     ensures { OnOk result (
         out.new.items
-        ≡ out.old.items ++ also name.now (array (T.json catalogue.now txns.now) items.now)) }
+        ≡ out.old.items ++ also (list_name_in key.now) (array (T.json catalogue.now txns.now) items.now)) }
 {
-    put_name(out, name)?;
-    tell_array(out, items, catalogue, txns)
+    put(out, key)?;
+    tell_items(out, items, catalogue, txns)?;
+    put(out, b"]")
 }
 
 /// Puts a further member that is a list, and nothing where the list is empty.
@@ -240,53 +229,52 @@ pub(crate) fn tell_list<T: ToJson>(
 #[inline(always)]
 pub(crate) fn tell_some<T: ToJson>(
     out: &mut Vec<u8>,
-    name: &[u8],
+    key: &[u8],
     items: &Listed<T>,
     catalogue: &Catalogue,
     txns: &[Txn],
 ) -> Result<(), NoMemory>
+    requires { key.now ≡ 44 ∷ member (list_name_in key.now) (91 ∷ []) }
     ensures { OnOk result (
         out.new.items
-        ≡ out.old.items ++ unless_empty name.now (T.json catalogue.now txns.now) items.now) }
+        ≡ out.old.items ++ unless_empty (list_name_in key.now) (T.json catalogue.now txns.now) items.now) }
 {
     let items = items.as_slice();
     if items.is_empty() {
         return Ok(());
     }
-    tell_list(out, name, items, catalogue, txns)
+    tell_list(out, key, items, catalogue, txns)
 }
 
 /// Puts a further member where the answer is yes.
-#[tactic(auto, using(crate::proofs::Members::member_put))]
+#[tactic(auto, unfolding(crate::specs::Json::also))]
 #[inline(always)]
-pub(crate) fn put_if(out: &mut Vec<u8>, name: &[u8], holds: bool) -> Result<(), NoMemory>
-    ensures { OnOk result (out.new.items ≡ out.old.items ++ if_true name.now holds) }
+pub(crate) fn put_if(out: &mut Vec<u8>, text: &[u8], holds: bool) -> Result<(), NoMemory>
+    requires { text.now ≡ 44 ∷ member (flag_name_in text.now) (codes "true") }
+    ensures { OnOk result (out.new.items ≡ out.old.items ++ if_true (flag_name_in text.now) holds) }
 {
-    if holds {
-        put_name(out, name)?;
-        put(out, b"true")
-    } else {
-        Ok(())
-    }
+    if holds { put(out, text) } else { Ok(()) }
 }
 
 /// Puts a further member that is a number.
 #[tactic(auto, using(crate::proofs::Members::member_put))]
 #[inline(always)]
-pub(crate) fn put_also(out: &mut Vec<u8>, name: &[u8], number: u64) -> Result<(), NoMemory>
-    ensures { OnOk result (out.new.items ≡ out.old.items ++ also name.now (decimal number)) }
+pub(crate) fn put_also(out: &mut Vec<u8>, key: &[u8], number: u64) -> Result<(), NoMemory>
+    requires { key.now ≡ 44 ∷ member (name_in key.now) [] }
+    ensures { OnOk result (out.new.items ≡ out.old.items ++ also (name_in key.now) (decimal number)) }
 {
-    put_name(out, name)?;
+    put_name(out, key)?;
     put_decimal(out, number)
 }
 
 /// Puts a further member that is a number, and nothing where it is 0.
 #[inline(always)]
-pub(crate) fn put_positive(out: &mut Vec<u8>, name: &[u8], number: u64) -> Result<(), NoMemory>
-    ensures { OnOk result (out.new.items ≡ out.old.items ++ unless_zero name.now number) }
+pub(crate) fn put_positive(out: &mut Vec<u8>, key: &[u8], number: u64) -> Result<(), NoMemory>
+    requires { key.now ≡ 44 ∷ member (name_in key.now) [] }
+    ensures { OnOk result (out.new.items ≡ out.old.items ++ unless_zero (name_in key.now) number) }
 {
     if number == 0 {
         return Ok(());
     }
-    put_also(out, name, number)
+    put_also(out, key, number)
 }

@@ -2,18 +2,21 @@
 ghost use Rattle.std.specs.Prelude.{◌≡◌, ◌++◌, ◌∷◌, [], map, true, OnOk};
 ghost use Rattle.std.specs.Fmt.{decimal, signed_decimal};
 ghost use Rattle.std.specs.List.{list_all};
+ghost use Rattle.sdd_report.specs.Names.{class_word};
 ghost use Rattle.sdd_script.specs.words.Values.{value_word};
 ghost use Rattle.sdd_script.specs.words.Words.{line_bytes};
-ghost use Rattle.sdd_inside.specs.Json.{escaped, quoted};
+ghost use Rattle.sdd_inside.specs.Json.{is_verbatim, quoted, pair};
 ghost use Rattle.sdd_inside.specs.Words.{is_number, number_json, time_json, class_json, fragment_json, txn_json, attempt_json, site_json, dm_json, key_json, row_json, row_or_null_json, cond_json, change_json};
 
-use crate::escape::{put_decimal, put_escaped, put_escaped_count, put_quoted};
+use crate::escape::{put_plain, put_quoted, put_verbatim};
 use crate::names::{class_word, fragment_name, txn_name};
-use crate::to_json::{ToJson, split_head, tell_pair, tell_triple};
+use crate::numbers::{digit, put_decimal, put_escaped_count};
+use crate::pieces::put;
+use crate::to_json::{ToJson, split_head, tell_triple};
 use itoa::Buffer;
 use sdd_script::{
     Catalogue, Change, ClassNo, Cond, DmNo, FragNo, NoMemory, Row, Site, Ts, Txn, TxnNo, Value,
-    put, put_value, put_values,
+    put_value, put_values,
 };
 
 impl ToJson for u32 {
@@ -51,7 +54,7 @@ impl ToJson for ClassNo {
         catalogue: &Catalogue,
         _txns: &[Txn],
     ) -> Result<(), NoMemory> {
-        put_quoted(out, class_word(catalogue, *self))
+        put_plain(out, class_word(catalogue, *self))
     }
 }
 
@@ -64,7 +67,7 @@ impl ToJson for FragNo {
         catalogue: &Catalogue,
         _txns: &[Txn],
     ) -> Result<(), NoMemory> {
-        put_quoted(out, fragment_name(catalogue, *self))
+        put_plain(out, fragment_name(catalogue, *self))
     }
 }
 
@@ -77,16 +80,29 @@ impl ToJson for TxnNo {
         _catalogue: &Catalogue,
         txns: &[Txn],
     ) -> Result<(), NoMemory> {
-        put_quoted(out, txn_name(txns, *self))
+        put_plain(out, txn_name(txns, *self))
     }
 }
 
-/// Puts the word of a module: a letter and its number.
+/// Puts the word of a module, a letter and its number, as a string: in one piece, since no number has
+/// more than two digits.
+#[tactic(auto, using(crate::proofs::Digits::module_of_one, crate::proofs::Digits::module_of_two, crate::proofs::Digits::module_put))]
 #[inline(always)]
-fn put_module(out: &mut Vec<u8>, number: u8) -> Result<(), NoMemory>
-    ensures { OnOk result (out.new.items ≡ out.old.items ++ (escaped (decimal number) ++ 34 ∷ [])) }
+fn put_module(out: &mut Vec<u8>, letter: u8, number: u8) -> Result<(), NoMemory>
+    requires { is_verbatim letter ≡ true }
+    ensures { OnOk result (out.new.items ≡ out.old.items ++ quoted (letter ∷ decimal number)) }
 {
-    put_escaped_count(out, u64::from(number))?;
+    if number < 10 {
+        return put(out, &[b'"', letter, b'0' + number, b'"']);
+    }
+    if number < 100 {
+        return put(
+            out,
+            &[b'"', letter, b'0' + number / 10, b'0' + number % 10, b'"'],
+        );
+    }
+    put(out, &[b'"', letter])?;
+    put_decimal(out, u64::from(number))?;
     put(out, b"\"")
 }
 
@@ -99,8 +115,7 @@ impl ToJson for DmNo {
         _catalogue: &Catalogue,
         _txns: &[Txn],
     ) -> Result<(), NoMemory> {
-        put(out, b"\"D")?;
-        put_module(out, self.0)
+        put_module(out, b'D', self.0)
     }
 }
 
@@ -115,14 +130,8 @@ impl ToJson for Site {
     ) -> Result<(), NoMemory> {
         match self {
             Site::U => put(out, b"\"U\""),
-            Site::T(tm) => {
-                put(out, b"\"T")?;
-                put_module(out, tm.0)
-            }
-            Site::D(dm) => {
-                put(out, b"\"D")?;
-                put_module(out, dm.0)
-            }
+            Site::T(tm) => put_module(out, b'T', tm.0),
+            Site::D(dm) => put_module(out, b'D', dm.0),
         }
     }
 }
@@ -138,7 +147,7 @@ pub(crate) fn put_attempt(
     ensures { OnOk result (out.new.items ≡ out.old.items ++ attempt_json txns.now txn attempt) }
 {
     put(out, b"\"")?;
-    put_escaped(out, txn_name(txns, txn))?;
+    put_verbatim(out, txn_name(txns, txn))?;
     put(out, b"#")?;
     put_escaped_count(out, attempt)?;
     put(out, b"\"")
@@ -249,11 +258,69 @@ impl ToJson for Option<Row> {
     }
 }
 
+/// Puts the end of a condition: that of the name of its class, its time, and the end of the list. A time
+/// of three or four digits, which most have, is put with all of it in one piece.
+#[tactic(auto, using(crate::proofs::Digits::end_of_three, crate::proofs::Digits::end_of_four, crate::proofs::Digits::end_put))]
+#[inline(always)]
+fn put_cond_end(out: &mut Vec<u8>, time: u64) -> Result<(), NoMemory>
+    ensures { OnOk result (out.new.items ≡ out.old.items ++ 34 ∷ 44 ∷ (decimal time ++ 93 ∷ [])) }
+{
+    if 100 <= time && time < 1000 {
+        return put(
+            out,
+            &[
+                b'"',
+                b',',
+                digit(time / 100),
+                digit(time / 10 % 10),
+                digit(time % 10),
+                b']',
+            ],
+        );
+    }
+    if 1000 <= time && time < 10_000 {
+        return put(
+            out,
+            &[
+                b'"',
+                b',',
+                digit(time / 1000),
+                digit(time / 100 % 10),
+                digit(time / 10 % 10),
+                digit(time % 10),
+                b']',
+            ],
+        );
+    }
+    put(out, b"\",")?;
+    put_decimal(out, time)?;
+    put(out, b"]")
+}
+
+/// Puts a condition. A READ of an undeclared transaction has many, and a data module at which it waits
+/// tells those that aren't met after each event: they are a third of some texts.
+#[tactic(auto, using(crate::proofs::Members::cond_put))]
+#[inline(always)]
+fn put_cond(out: &mut Vec<u8>, catalogue: &Catalogue, cond: &Cond) -> Result<(), NoMemory>
+    ensures { OnOk result (
+        out.new.items ≡ out.old.items ++ pair (quoted (class_word catalogue.now cond.now.class.0)) (decimal cond.now.time.0)) }
+{
+    put(out, b"[\"")?;
+    put_verbatim(out, class_word(catalogue, cond.class))?;
+    put_cond_end(out, cond.time.0)
+}
+
 impl ToJson for Cond {
     ghost json = { cond_json };
 
-    fn tell(&self, out: &mut Vec<u8>, catalogue: &Catalogue, txns: &[Txn]) -> Result<(), NoMemory> {
-        tell_pair(out, &self.class, &self.time, catalogue, txns)
+    #[inline(always)]
+    fn tell(
+        &self,
+        out: &mut Vec<u8>,
+        catalogue: &Catalogue,
+        _txns: &[Txn],
+    ) -> Result<(), NoMemory> {
+        put_cond(out, catalogue, self)
     }
 }
 
