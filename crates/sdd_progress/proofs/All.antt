@@ -46,7 +46,7 @@ pub use Rattle.sdd_obligations.proofs.Sources.{home_first, source_is_home}
 pub use Rattle.sdd_obligations.proofs.Starts.{small_home}
 pub use Rattle.sdd_obligations.proofs.Sums.{range_at}
 pub use Rattle.sdd_obligations.proofs.Texts.{active_so, submitted_fit}
-pub use Rattle.sdd_obligations.proofs.attempt.Work.{chosen_by as chosen, work_sent}
+pub use Rattle.sdd_obligations.proofs.attempt.Work.{chosen_by as chosen}
 pub use Rattle.sdd_obligations.proofs.base.Membership.{Contains-here}
 pub use Rattle.sdd_obligations.proofs.catalog.Sound.{sound_whole}
 pub use Rattle.sdd_obligations.proofs.class_eras.EraSets.{covered}
@@ -104,10 +104,9 @@ pub use Rattle.sdd_obligations.proofs.net.Sound.{sound}
 pub use Rattle.sdd_obligations.proofs.protocol.ConditionOn.{condition_class, condition_is}
 pub use Rattle.sdd_obligations.proofs.serial_orders.Members.{Contains-from_filter_map, Contains-from_map, Contains-map}
 pub use Rattle.sdd_obligations.proofs.serial_orders.Places.{same_commit, same_start}
-pub use Rattle.sdd_obligations.proofs.shipped.Members.{or_false as only_one}
 pub use Rattle.sdd_obligations.proofs.site_module.Finding.{found_at}
 pub use Rattle.sdd_obligations.proofs.tm.OpenAsks.{open_did, open_handed}
-pub use Rattle.sdd_obligations.proofs.umod.Counts.{commits_same as hand_commits, counts_tm}
+pub use Rattle.sdd_obligations.proofs.umod.Counts.{commits_same as hand_commits}
 pub use Rattle.sdd_obligations.specs.All.{Act, AllFewTicks, AllZero, Answer, AppliedBefore, Apply, AreAllApplied, AreFew, AreOpen, AreSubmittedOnce, Ask, Asking, Asks, Attempt, Bases, Catalogue, Change, ClassNo, ClassView, Commit, Committed, Cond, Condition, Const, D, Diagonal, Did, DmNo, Does, Done, Each, Edge, Entry, Eras, Event, Exchange, Fetching, FitsCondition, FitsInput, FitsQuery, FitsStatement, FitsText, FragNo, GoesTo, Hand, Handed, HasAnswer, HasCommit, HasNoCycle, Held, History, Hold, Input, IsAgain, IsApplied, IsAttempt, IsChain, IsClass, IsCommitT, IsCommitted, IsConditionOf, IsDueEach, IsEdgeOf, IsEraOf, IsFair, IsFairT, IsFairU, IsHigh, IsLawful, IsModule, IsModuleOf, IsOf, IsOfEarlierEra, IsOfWrite, IsOrderable, IsPermitted, IsPutAt, IsRecordAt, IsRejectBy, IsRising, IsSerial, IsSoundCatalogue, IsStepU, IsSubmitted, IsTable, IsWhole, KeepsApplies, KeepsEras, KeepsLaws, KeepsRejections, KeepsStarts, KeepsUndeclared, Log, MAX_TXNS, Mark, Move, Msg, NamesOneOf, Notes, Nothing, Null, Open, Over, P2, P3, Phase, Protocol, Query, Question, Queued, Read, Ready, Rec, Records, Redeclare, Redeclared, Redeclares, Reduced, Reject, RelNo, Release, Replies, Reply, Rests, Rise, Row, Rows, Same, Sends, Setting, Settle, Shipping, Site, Start, StartedBefore, StartedHead, Step, Stmt, Submit as Submitting, Submits, Submitted, T, Ticked, TmNo, Ts, Turn, Txn, TxnNo, TxnsExist, U, Up, Use, Values, View, Write, active, active_after, active_handed, active_sent, after_hand, all_links, all_of, answered, answers_hand, are_linked, ascending, ask_for, asked_by, asked_in, askings, asks, asks_handed, asks_rows, attempt_due, attempt_of, attempts, base_of, bound, bound_at, bound_of, by_ask, by_event, by_mark, calls_of, changes_to, class_at, class_for, class_in, class_no, class_puts, clock, commit_act, commits_of_others, cond_of, condition_on, conditions, conditions_of, conflict_graph, contains, contents, count_of, counted, counts, counts_for, dated, dm_no, dones_of, eras_begun, event_at, fetches, fetches_from, fewest, first_send, first_some, flight, frag_no, fragments_in, fragments_of, goes_on, goes_through, greatest_bound, hand_due, hand_on, handed, hands, hands_from, has_copy, head, head_of, history, holds, holds_back, home, home_of, is_a_held, is_a_hold, is_a_release, is_answer, is_asked, is_asked_of, is_candidate, is_commit_of_other, is_committed, is_done_of, is_down, is_down_after, is_empty, is_link, is_met, is_over, is_question, is_quiet_link, is_read, is_site, is_start_of, item_cmp, items_of, joins_from, last_served, left, limit_of, link, link_of, links, local_of, mark_due, mark_from, mark_of, marks, modules_asked, move_at, moves_by, next, next_at, next_in, next_mark, next_move, note_if, nth_era, null_at, null_due, null_time, null_to, number_of, numbers_to, on_answer, open_due, opens, or_else, p2_time, passed, phase_ends, pipe, pipe_at, placed, puts_to, queue, queued, quiet, read_at, reads_asked, redeclares, redeclares_in, reduces, rejects, results, round, row_of, rows_asked, rows_at, rows_in_fragment, run, runs, same_site, sends_of_act, sent, setting_of, ships, site_due, sites, source_of, spoils, start_at, start_of, start_read, starts, starts_before, starts_of, submits_by, submits_in, submits_of, takes_part, tally, time_at, time_of, tm_no, to_site, touches, tried, ts_of, turn_at, turn_with, txn_no, u_stamp, undeclared_conditions, uses_at, uses_in, uses_of, view_of, waits, with_event, with_use, with_values}
 pub use Rattle.sdd_obligations.specs.dm.Copies.{classes_of}
 pub use Rattle.sdd_obligations.specs.dm.Views.{class_view}

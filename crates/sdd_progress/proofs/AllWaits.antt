@@ -38,12 +38,12 @@ pub use Rattle.sdd_obligations.proofs.graph.Known.{edges_known}
 pub use Rattle.sdd_obligations.proofs.logs.EachLocal.{allowed_act}
 pub use Rattle.sdd_obligations.proofs.logs.NewMarks.{lawful_permitted}
 pub use Rattle.sdd_obligations.proofs.logs.Steps.{none_does as no_act, none_in}
-pub use Rattle.sdd_progress.proofs.All.{only_one}
 pub use Rattle.sdd_obligations.proofs.logs.net.Lists.{get-append as in_left}
 pub use Rattle.sdd_obligations.proofs.logs.tm.Lists.{get_map as at_map, get_within as place_within, of_map as in_mapped}
 pub use Rattle.sdd_obligations.proofs.logs.umod.Lists.{or_nothing as neither_some}
 pub use Rattle.sdd_obligations.proofs.protocol.ConditionOn.{condition_is}
 pub use Rattle.sdd_obligations.proofs.protocol.Tables.{all_at, blocks_of, first_block, first_block-vertical, vertical_block-lists}
+pub use Rattle.sdd_obligations.proofs.shipped.Members.{or_false as only_one}
 pub use Rattle.sdd_obligations.specs.invariants.All.{Act, AllGe, Answer, Apply, AreSubmittedOnce, Bases, Catalogue, Change, Class, ClassNo, ClassView, Cond, D, Deliver, Diagonal, Did, DmNo, Does, Each, Edge, Entry, Era, Event, FragNo, Hand, Handed, Home, Input, IsApplied, IsApplyOf, IsClassHere, IsDue, IsDueEach, IsEra, IsLawful, IsPermitted, IsPutAt, IsRead, IsReadStep, IsRising, IsServedClass, IsSoundCatalogue, IsTable, IsTheLog, Log, May, Msg, Open, P2, P3, Pipe, Processes, Protocol, Put, Query, Queued, Read, Ready, Rec, Records, Reject, Sends, Setting, Site, Submit, T, TmNo, Ts, Txn, TxnNo, U, Use, Vertical, View, Wait, Write, act_by, act_where, active, all_of, answer_of, answer_to, ascending, asked_by, asked_in, asked_on, base_of, bound, by_head, by_open, by_record, class_at, class_no, class_puts, condition_on, conditions_at, current_era, dm_no, does_at, exchange_due, first_some, frag_no, fragments_in, goes_through, head, head_due, head_of, home, home_of, is_asked_of, is_met, is_processing, is_wait, judged, last_write_for, local_of, made, next, next_at, next_stamp, nth_era, number_of, numbers_to, on_hold, open_due, or_else, or_zero, pipe, pipe_at, put, queue, redeclares, runs, same_protocol, sends_of_act, setting_of, site_due, sites, spoiler, spoils, start_at, start_due, start_of, start_read, step_on, time_at, time_of, tm_no, to_site, touches, txn_no, u_stamp, uses_of, view_of, waits, with_made}
 pub use Rattle.sdd_obligations.specs.invariants.Barrier.{IsLow}
 pub use Rattle.sdd_obligations.specs.invariants.Unspoilt.{spoiling}

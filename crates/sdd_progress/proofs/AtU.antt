@@ -1,6 +1,5 @@
 -- The module for undeclared transactions has less left to do after each act.
-use Rattle.sdd_progress.proofs.AllEnds.{Act, Attempt, Bases, Bool, Did, Each, Hold, IsFair, IsNew, IsServed, List, None, Option, Queued, Release, Sends, Setting, Some, T, TmCounts, Ts, active, arith, asks_next, attempt_due, by_release, commit_act, committed_short, counts, eq-eqb, eqb-true, false, head_of, idle_of, if◌then◌else◌, in_mapped, last_served, length, ltb-true, nat_lt, ne_eqb, numbers_to, queue, queue_is, refl, same_Some, same_or_not, slice_get, subst, suc, tm_no, true, ℕ, ◌&&◌, ◌+◌, ◌-◌, ◌<◌, ◌==◌, ◌∷◌, ◌≡◌, ◌≤◌}
-use Rattle.sdd_progress.proofs.All.{counts_tm}
+use Rattle.sdd_progress.proofs.AllEnds.{Act, Attempt, Bases, Bool, Did, Each, Hold, IsFair, IsNew, IsServed, List, None, Option, Queued, Release, Sends, Setting, Some, T, TmCounts, Ts, active, arith, asks_next, attempt_due, by_release, commit_act, committed_short, counts, counts_tm, eq-eqb, eqb-true, false, head_of, idle_of, if◌then◌else◌, in_mapped, last_served, length, ltb-true, nat_lt, ne_eqb, numbers_to, queue, queue_is, refl, same_Some, same_or_not, slice_get, subst, suc, tm_no, true, ℕ, ◌&&◌, ◌+◌, ◌-◌, ◌<◌, ◌==◌, ◌∷◌, ◌≡◌, ◌≤◌}
 use Rattle.sdd_progress.proofs.Lines.{class_work, commit_falls, send_falls, send_up, start_falls, tried_long}
 use Rattle.sdd_progress.proofs.Sums.{total, total_less, total_up}
 use Rattle.sdd_obligations.specs.site_module.SiteLog.{Log}

@@ -1,6 +1,5 @@
 -- What the line of a class has left to do, once a site acts.
-use Rattle.sdd_progress.proofs.AllEnds.{Act, Attempt, Bases, Did, IsServed, List, Msg, None, Option, Queued, Sends, Setting, Site, Some, Ticking, [], active, ap, arith, asks_rows, commit_act, committed_short, false, filter, head_of, length, map, not, queue, refl, same_number, send_due, start_act, subst, suc, sym, tried, true, work_of, ℕ, ◌<◌, ◌==◌, ◌∷◌, ◌≡◌, ◌≤◌}
-use Rattle.sdd_progress.proofs.All.{work_sent}
+use Rattle.sdd_progress.proofs.AllEnds.{Act, Attempt, Bases, Did, IsServed, List, Msg, None, Option, Queued, Sends, Setting, Site, Some, Ticking, [], active, ap, arith, asks_rows, commit_act, committed_short, false, filter, head_of, length, map, not, queue, refl, same_number, send_due, start_act, subst, suc, sym, tried, true, work_of, work_sent, ℕ, ◌<◌, ◌==◌, ◌∷◌, ◌≡◌, ◌≤◌}
 use Rattle.sdd_obligations.specs.site_module.SiteLog.{Log}
 use Rattle.sdd_obligations.specs.protocol.declared.entry.Entry as line
 

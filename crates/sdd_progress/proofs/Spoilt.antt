@@ -1,6 +1,5 @@
 -- A condition that is spoilt, and was not before, was spoilt by an Apply in between.
-use Rattle.sdd_progress.proofs.AllWaits.{Act, Apply, Bool, Change, ClassNo, Cond, D, Did, DmNo, Does, Entry, Input, IsClassHere, IsPermitted, IsReadStep, IsSpoiltIn, List, Log, May, Msg, Pipe, Rec, Records, Setting, Site, Some, Ts, TxnNo, Write, [], ap, arith, class_not_in_view, d_step, dec_le, false, head, inl, inr, is_processing, le_is, list_any, neither_left, neither_right, not_both, not_own, only_right, own_record, passing, pipe, processed_handed, processed_in_is, processed_more, read_step_way, same_or_not, setting_of, spoiling, spoils, spoils_is, subst, sym, touches, true, true_or_false, view_of, waits, ℕ, ◌++◌, ◌∙◌, ◌∷◌, ◌≡◌, ◌≤◌}
-use Rattle.sdd_progress.proofs.All.{only_one}
+use Rattle.sdd_progress.proofs.AllWaits.{Act, Apply, Bool, Change, ClassNo, Cond, D, Did, DmNo, Does, Entry, Input, IsClassHere, IsPermitted, IsReadStep, IsSpoiltIn, List, Log, May, Msg, Pipe, Rec, Records, Setting, Site, Some, Ts, TxnNo, Write, [], ap, arith, class_not_in_view, d_step, dec_le, false, head, inl, inr, is_processing, le_is, list_any, neither_left, neither_right, not_both, not_own, only_one, only_right, own_record, passing, pipe, processed_handed, processed_in_is, processed_more, read_step_way, same_or_not, setting_of, spoiling, spoils, spoils_is, subst, sym, touches, true, true_or_false, view_of, waits, ℕ, ◌++◌, ◌∙◌, ◌∷◌, ◌≡◌, ◌≤◌}
 use Rattle.sdd_progress.proofs.AtModule.{IsEntryAt, acting, aside, at_module, entry_at, handing}
 use Rattle.sdd_obligations.specs.site_module.SiteLog as site
 

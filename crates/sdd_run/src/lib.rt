@@ -21,7 +21,7 @@ pub use sdd_lists::{Lists, lists_of};
 pub use sdd_make::{bank, law_workload_allowed, workload};
 pub use sdd_report::put_reply;
 pub use sdd_schedule::{
-    Answer, Asked, ClassList, ClassNos, ClassRun, DataModule, Line, Observer, Turn, TxnModule, UModule,
-    World, WorldEnd, carry_out, data_modules, home,
+    Answer, Asked, ClassList, ClassNos, ClassRun, DataModule, Line, Observer, Turn, TxnModule,
+    UModule, World, WorldEnd, carry_out, data_modules, home,
 };
 pub use sdd_script::{Counts, StartRows, WorkError, WorkFault, WorkRule, Workload, read_workload};

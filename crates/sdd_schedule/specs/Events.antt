@@ -1,5 +1,5 @@
 -- An event of a run, between the log before it and the log after it.
-use Rattle.std.specs.Prelude.{ℕ, ◌≡◌, ◌∷◌, ◌++◌}
+use Rattle.std.specs.Prelude.{◌≡◌, ◌∷◌, ◌++◌}
 use Rattle.sdd_world.specs.Represents.{Calm}
 use Rattle.sdd_world.specs.declared.world.World.{World}
 use Rattle.sdd_world.specs.needs.All.{Event, Input, IsPossible, Log, Mark, Redeclare, Redeclares, Rests, marks}

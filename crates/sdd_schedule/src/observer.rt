@@ -1,5 +1,5 @@
 //! Who looks on while a schedule is carried out.
-ghost use Rattle.std.specs.Prelude.{◌≡◌, ◌∷◌, List, OnOk};
+ghost use Rattle.std.specs.Prelude.{◌∷◌, List, OnOk};
 ghost use Rattle.sdd_world.specs.Represents.{Calm};
 ghost use Rattle.sdd_world.specs.needs.All.{Event as Happening, Input, IsLawful, Log, Round, with_event};
 ghost use Rattle.sdd_schedule.specs.Events.{IsToFollow, IsTellable};

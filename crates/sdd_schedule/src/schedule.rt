@@ -1,5 +1,5 @@
 //! The events of a schedule, carried out one by one before an observer.
-ghost use Rattle.std.specs.Prelude.{◌≡◌, ◌+◌, ◌^◌, ◌<◌, ◌≤◌, List, [], ◌∷◌, ℕ, suc, length, IfOk, OnOk, IsErrOf};
+ghost use Rattle.std.specs.Prelude.{◌≡◌, ◌+◌, ◌^◌, ◌<◌, List, [], ◌∷◌, suc, length, IfOk, OnOk, IsErrOf};
 ghost use Rattle.sdd_world.specs.Represents.{EndsBy, Represents};
 ghost use Rattle.sdd_world.specs.needs.All.{Event as Happening, Input, IsGood, IsPossible, Log, Redeclare, TakesRounds, marks, with_event};
 ghost use Rattle.sdd_schedule.specs.Schedules.{AreAllowed, IsAllowed, lists_after, with_events};

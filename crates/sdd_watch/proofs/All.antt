@@ -38,23 +38,17 @@ pub use Rattle.sdd_obligations.proofs.invariants.Processed.{and_false}
 pub use Rattle.sdd_obligations.proofs.invariants.Sent.{sent_is}
 pub use Rattle.sdd_obligations.proofs.invariants.Sites.{site_is, site_self}
 pub use Rattle.sdd_obligations.proofs.invariants.logs.dm.ByClass.{filter_same}
-pub use Rattle.sdd_obligations.proofs.logs.AsLists.{left_is_ahead}
-pub use Rattle.sdd_obligations.proofs.logs.Completing.{complete_parts, one_more, redeclare_next, settled}
 pub use Rattle.sdd_obligations.proofs.logs.Delivering.{ack_same}
-pub use Rattle.sdd_obligations.proofs.logs.Grows.{grows, lawful_grows, with_end}
 pub use Rattle.sdd_obligations.proofs.logs.Handing.{delivered_puts}
 pub use Rattle.sdd_obligations.proofs.logs.Links.{delivered_deliver, delivered_lose, delivered_repeat, delivered_resend}
 pub use Rattle.sdd_obligations.proofs.logs.Marking.{no_redeclare, ticked_none}
 pub use Rattle.sdd_obligations.proofs.logs.NewMarks.{lawful_permitted}
-pub use Rattle.sdd_obligations.proofs.logs.NextMark.{mark_is_next}
-pub use Rattle.sdd_obligations.proofs.logs.One.{IsBefore, limit_or_complete, one_chain, one_log}
-pub use Rattle.sdd_obligations.proofs.logs.Rounding.{no_events_quiet}
+pub use Rattle.sdd_obligations.proofs.logs.One.{limit_or_complete, one_log}
 pub use Rattle.sdd_obligations.proofs.logs.Steps.{none_any_base, none_does as does_none, none_more, none_same}
 pub use Rattle.sdd_obligations.proofs.logs.Turning.{part_up}
 pub use Rattle.sdd_obligations.proofs.needs.OfNext.{IsThere, of_next}
 pub use Rattle.sdd_obligations.proofs.net.Directions.{link_back}
 pub use Rattle.sdd_obligations.proofs.net.Lists.{All-at, get-append as in_left}
-pub use Rattle.sdd_obligations.proofs.net.Queues.{no_items}
 pub use Rattle.sdd_obligations.proofs.net.SiteLists.{all_links_more, links_no, links_yes, sites_more}
 pub use Rattle.sdd_obligations.proofs.net.Sound.{sound}
 pub use Rattle.sdd_obligations.proofs.serial_orders.Reading.{is_eq_nat, same_pair}
@@ -73,8 +67,6 @@ pub use Rattle.sdd_obligations.specs.history.declared.record.Rec.TheVariants.{Su
 pub use Rattle.sdd_obligations.specs.invariants.Steps.{changes_at}
 pub use Rattle.sdd_obligations.specs.lang.Fits.{FitsTxn}
 pub use Rattle.sdd_obligations.specs.logs.Due.{home_of as site_of}
-pub use Rattle.sdd_obligations.specs.logs.Left.{as_lists}
-pub use Rattle.sdd_obligations.specs.logs.Marks.{Ahead, BetweenRounds, InRound, ahead, from_event}
 pub use Rattle.sdd_obligations.specs.net.Links.{Way, numbered, put, unacked, with_message, without_at}
 pub use Rattle.sdd_obligations.specs.net.Sound.{IsOf, IsSoundWay}
 pub use Rattle.sdd_obligations.specs.pipe.Digest.{Digest, IsDigest, passed_with}
@@ -95,14 +87,13 @@ pub use Rattle.sdd_run.proofs.progress.Lists.{none_at}
 pub use Rattle.sdd_run.proofs.progress.NothingDue.{none_at_data}
 pub use Rattle.sdd_run.proofs.progress.Still.{d_site, t_site}
 pub use Rattle.sdd_run.proofs.progress.lawful.Touched.{copy_module}
-pub use Rattle.sdd_run.proofs.schedule.EachEvent.{IsMarkedBetween, MarksNext, event_of, marked_between, marks_above, one_more_mark}
+pub use Rattle.sdd_run.proofs.schedule.EachEvent.{IsMarkedBetween, MarksNext, marked_between, marks_above, one_more_mark}
 pub use Rattle.sdd_run.proofs.schedule.GivenMore.{round_more, scheduled_more}
 pub use Rattle.sdd_run.proofs.txn_module.Queueing.{represents_queues}
 pub use Rattle.sdd_run.proofs.world.Failing.{handed_on}
 pub use Rattle.sdd_run.proofs.world.HomesExist.{no_txn, txn_read}
 pub use Rattle.sdd_run.proofs.world.Lists.{kept_to}
 pub use Rattle.sdd_run.proofs.world.Results.{after_ok}
-pub use Rattle.sdd_run.proofs.world.Rounds.{few, free, rests_more as rests_given, round_before, round_ends, single}
 pub use Rattle.sdd_run.specs.Lent.{era_of_list}
 pub use Rattle.sdd_run.specs.Runs.{AreTables, EndsAtLimit, eras_with_tables, first_input, input_of}
 pub use Rattle.sdd_run.specs.attempts.Lines.{awaited_by, lacked_by, tries_of_first}
@@ -116,8 +107,7 @@ pub use Rattle.sdd_run.specs.exchange.Phases.{awaited_in}
 pub use Rattle.sdd_run.specs.exchange.declared.answer.Answer.{Answer}
 pub use Rattle.sdd_run.specs.report.declared.copies.CopyTable.{CopyTable}
 pub use Rattle.sdd_run.specs.schedule.Events.{IsToFollow}
-pub use Rattle.sdd_run.specs.schedule.Schedules.{AreAllowed, with_events}
-pub use Rattle.sdd_run.specs.schedule.declared.schedule.ClassList.{ClassList}
+pub use Rattle.sdd_run.specs.schedule.Schedules.{with_events}
 pub use Rattle.sdd_run.specs.schedule.declared.turn.Turn.{Turn}
 pub use Rattle.sdd_run.specs.script.All.{IsValid}
 pub use Rattle.sdd_run.specs.script.declared.workload.Workload.{Workload}
@@ -126,7 +116,7 @@ pub use Rattle.sdd_run.specs.world.Beginnings.{AllBegin, BeginsD, IsBegun}
 pub use Rattle.sdd_run.specs.world.Copies.{tables_of}
 pub use Rattle.sdd_run.specs.world.Modules.{AllRepresent, LivesD, LivesT}
 pub use Rattle.sdd_run.specs.world.Pending.{commits}
-pub use Rattle.sdd_run.specs.world.Represents.{Calm, EndsBy, Represents, Rounding, Settling, events_of}
+pub use Rattle.sdd_run.specs.world.Represents.{Calm, Represents}
 pub use Rattle.sdd_run.specs.world.declared.ends.WorldEnd.{WorldEnd}
 pub use Rattle.sdd_run.specs.world.declared.sites.Sites.{Sites}
 pub use Rattle.sdd_run.specs.world.declared.world.World.{World}
@@ -144,7 +134,6 @@ pub use Rattle.sdd_watch.specs.declared.both.Both.{Both}
 pub use Rattle.sdd_watch.specs.declared.commits.Commits.{Commits}
 pub use Rattle.sdd_watch.specs.declared.dones.Dones.{Dones}
 pub use Rattle.sdd_watch.specs.declared.foreseen.Foreseen.{Foreseen}
-pub use Rattle.sdd_watch.specs.declared.foreseen.Foreseen.TheVariants.{Something}
 pub use Rattle.sdd_watch.specs.declared.reach.Reach.{Reach}
 pub use Rattle.sdd_watch.specs.declared.reach.Reach.TheVariants.{Across, Along, Around, From, Nowhere}
 pub use Rattle.sdd_watch.specs.declared.teller.Teller.{Teller}

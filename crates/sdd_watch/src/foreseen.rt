@@ -1,6 +1,6 @@
 //! What an event finds.
 ghost use Rattle.std.specs.Prelude.{◌≡◌, ◌≤◌};
-ghost use Rattle.sdd_obligations.specs.All.{Input, IsLinkOf, IsPossible, Log, delivered, is_empty, link_of, packet_at};
+ghost use Rattle.sdd_obligations.specs.All.{Input, IsLinkOf, Log, delivered, is_empty, link_of, packet_at};
 ghost use Rattle.sdd_obligations.specs.net.Links.{unacked};
 ghost use Rattle.sdd_run.specs.world.Represents.{Calm};
 ghost use Rattle.sdd_watch.specs.Happens.{arrived_of, found_by, taken};

@@ -5,6 +5,7 @@ ghost use Rattle.sdd_words.specs.Replies.{row_line, query_lines, queries_from, o
 use crate::write::{put, put_count, put_values};
 use sdd_base::{Answer, AnswerRow, NoMemory, Reply, Row, Value};
 
+#[inline(always)]
 fn put_row(out: &mut Vec<u8>, values: &[Value]) -> Result<(), NoMemory>
     ensures { OnOk result (out.new.items ≡ out.old.items ++ row_line values.now) }
 {

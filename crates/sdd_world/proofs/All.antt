@@ -21,17 +21,17 @@ pub use Rattle.sdd_needs.proofs.lang.Pushdown.{and_parts}
 pub use Rattle.sdd_needs.proofs.lang.catalog.Validity.{not_false}
 pub use Rattle.sdd_needs.proofs.logs.Acts.{calls_acts, ends_in_acts, history_acts, is_down_acts, left_acts, linked_acts, marks_acts, other_acts, own_acts, puts-append, puts_past-append, takes_part_acts}
 pub use Rattle.sdd_needs.proofs.logs.Beginning.{next_at_first, rests_at_first}
-pub use Rattle.sdd_needs.proofs.logs.Completing.{OnlyMarksAreDue, IsSingle, event_left, in_round, none_left, one_more, redeclare_next, round_next, settled}
+pub use Rattle.sdd_needs.proofs.logs.Completing.{OnlyMarksAreDue, IsSingle, event_left, in_round, none_left, one_more, redeclare_next, round_next}
 pub use Rattle.sdd_needs.proofs.logs.Delivering.{ack_same, delivers_ack, delivers_kept, delivers_messages, delivers_nothing, none_remains, nothing_same, remain_beside, remain_more}
 pub use Rattle.sdd_needs.proofs.logs.EachLocal.{allowed_act}
 pub use Rattle.sdd_needs.proofs.logs.FirstHand.{listed, none_to_hand}
-pub use Rattle.sdd_needs.proofs.logs.Grows.{lawful_grows, next_grows}
+pub use Rattle.sdd_needs.proofs.logs.Grows.{lawful_grows}
 pub use Rattle.sdd_needs.proofs.logs.Handing.{all_handed, first_lawful, first_next, hands_first, remain_acts, remain_other}
 pub use Rattle.sdd_needs.proofs.logs.Links.{delivered_lose, delivered_repeat, delivered_resend, sent_stays, unacked_none, unacked_some}
 pub use Rattle.sdd_needs.proofs.logs.Lowest.{first_of_one, none_of_one, takes_of_one}
 pub use Rattle.sdd_needs.proofs.logs.Marking.{IsNoTick, TurnsNone, handed_still, mark_local, mark_within, none_by_mark, part_marked, rests_marked, rests_noted, rests_redeclared, still_none, ticked_none, turns_none}
 pub use Rattle.sdd_needs.proofs.logs.Permitted.{next_allowed}
-pub use Rattle.sdd_needs.proofs.logs.Rounding.{each_of_round, no_events_quiet}
+pub use Rattle.sdd_needs.proofs.logs.Rounding.{each_of_round}
 pub use Rattle.sdd_needs.proofs.logs.SpelledLinks.{delivery_map, link_map}
 pub use Rattle.sdd_needs.proofs.logs.Submitting.{acts_lawful, home_in, other_local, submits_and_acts, submits_to_wait, submitted, submitted_lawful, submitted_local, submitted_within}
 pub use Rattle.sdd_needs.proofs.logs.Turning.{comes_up, goes_down, is_down_already, isnt_down, part_here, resumes_lawful, up_within}

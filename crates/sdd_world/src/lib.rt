@@ -36,9 +36,9 @@ pub use world::World;
 
 // What lies below, for the crates above.
 pub use sdd_attempt::{Answer, Line};
-pub use sdd_dm::{ClassNos, DataModule};
-pub use sdd_tm::{Asked, ClassRun, TxnModule};
-pub use sdd_umod::UModule;
 pub use sdd_base::{Event, NoMemory};
 pub use sdd_catalog::Catalogue;
+pub use sdd_dm::{ClassNos, DataModule};
 pub use sdd_protocol::Table;
+pub use sdd_tm::{Asked, ClassRun, TxnModule};
+pub use sdd_umod::UModule;
