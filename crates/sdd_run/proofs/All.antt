@@ -56,7 +56,7 @@ pub use Rattle.sdd_obligations.specs.attempt.Line.{Line}
 pub use Rattle.sdd_obligations.specs.attempt.Standings.{lower, lowest, or_standing, queued_at, site_of, standing_by, standing_of, underway, waiting}
 pub use Rattle.sdd_obligations.specs.base.declared.limits.TheConstants.{MAX_TICKS}
 pub use Rattle.sdd_obligations.specs.copy.Contents.{Dated}
-pub use Rattle.sdd_world.specs.data_module.State.{State}
+pub use Rattle.sdd_schedule.specs.world.data_module.State.{State}
 pub use Rattle.sdd_obligations.specs.dm.Waiting.{conds_of, waiting_at}
 pub use Rattle.sdd_obligations.specs.history.declared.record.Rec.TheVariants.{Submit}
 pub use Rattle.sdd_obligations.specs.lang.Database.{Item}

@@ -68,6 +68,7 @@ pub use Rattle.sdd_obligations.specs.invariants.Steps.{changes_at}
 pub use Rattle.sdd_obligations.specs.lang.Fits.{FitsTxn}
 pub use Rattle.sdd_obligations.specs.logs.Due.{home_of as site_of}
 pub use Rattle.sdd_obligations.specs.net.Links.{Way, numbered, put, unacked, with_message, without_at}
+pub use Rattle.sdd_obligations.specs.net.Nets.{place_of}
 pub use Rattle.sdd_obligations.specs.net.Sound.{IsOf, IsSoundWay}
 pub use Rattle.sdd_obligations.specs.pipe.Digest.{Digest, IsDigest, passed_with}
 pub use Rattle.sdd_obligations.specs.pipe.Pipe.{greatest}
@@ -125,7 +126,7 @@ pub use Rattle.sdd_watch.specs.Happens.{applied_by, applied_in, arrived_by, arri
 pub use Rattle.sdd_watch.specs.Keeping.{IsLineInOrder, active_of, head_in, question_by, questions_in}
 pub use Rattle.sdd_watch.specs.Looking.{AreAside, ArePipesSeen, AreSeen, advanced, all_waiting, looks, messages_in, numbers_for, queue_in, queue_of, queues_if, says, says_one, seen_with}
 pub use Rattle.sdd_watch.specs.Moments.{all_pipes, at_event, came, link_moment, moment_of, number_through, passed_to, pipe_moment, pipes_at_module, queue_moment, queues_at, queues_from, queues_of, source, time_passed}
-pub use Rattle.sdd_watch.specs.Reaching.{given_to, is_between, is_touched, may_act, may_change_from, reach_of, reach_of_delivery}
+pub use Rattle.sdd_watch.specs.Reaching.{actor, given_to, home_in, is_between, is_to, is_touched, may_act, may_change_from, other_end, reach_between, reach_of, reach_of_delivery, touched_from}
 pub use Rattle.sdd_watch.specs.ScheduleSoFar.{Foresees, Tells}
 pub use Rattle.sdd_watch.specs.States.{actives, head_by, phase_by, questions_to, report_head, reported_active, reported_attempt, reported_dm, reported_tm, says_applied, state_of, unapplied_of}
 pub use Rattle.sdd_watch.specs.Text.{IsInsideOf, change, inside_text, line_of}
@@ -134,6 +135,7 @@ pub use Rattle.sdd_watch.specs.declared.both.Both.{Both}
 pub use Rattle.sdd_watch.specs.declared.commits.Commits.{Commits}
 pub use Rattle.sdd_watch.specs.declared.dones.Dones.{Dones}
 pub use Rattle.sdd_watch.specs.declared.foreseen.Foreseen.{Foreseen}
+pub use Rattle.sdd_watch.specs.declared.on_links.OnLinks.{OnLinks}
 pub use Rattle.sdd_watch.specs.declared.reach.Reach.{Reach}
 pub use Rattle.sdd_watch.specs.declared.reach.Reach.TheVariants.{Across, Along, Around, From, Nowhere}
 pub use Rattle.sdd_watch.specs.declared.teller.Teller.{Teller}
@@ -142,7 +144,6 @@ pub use Rattle.sdd_watch.specs.declared.waiting.Purpose.TheVariants.{Applied}
 pub use Rattle.sdd_watch.specs.declared.watch.Watch.{Watch}
 pub use Rattle.sdd_watch.specs.declared.watched_link.Arrived.{Arrived}
 pub use Rattle.sdd_watch.specs.declared.watched_link.LinkSeen.{LinkSeen}
-pub use Rattle.sdd_watch.specs.declared.watched_link.OnLinks.{OnLinks}
 pub use Rattle.sdd_watch.specs.declared.watched_link.WatchedLink.{WatchedLink}
 pub use Rattle.sdd_watch.specs.declared.watched_pipe.WatchedPipe.{WatchedPipe}
 pub use Rattle.std.proofs.Common.{All, Bool, Err, IfOk, List, MatchOption, None, Ok, OnOk, Option, Result, SFits as FitsSigned, Some, [], add-one, ap, append-nil, append_assoc, arith, cond, drop, drop-cons, drop-drop, drop-set-lt, eq-eqb, eqb-true, false, filter, filter_map, find, flat_map, fold, if◌then◌else◌, inl, inr, is_some, le-leb, le-ltb, leb-true, length, length-take-le, lt-ltb, map, map-id, max, nat_cmp, nat_le, nat_lt, not, option_map, pos, position, refl, rules, slice_get, slice_index_or as get_or, slice_set, subst, suc, sym, take, take-append-drop, take_all, true, unwrap_or, w64, zero, ℕ, ℤ, ◌&&◌, ◌*◌, ◌++◌, ◌+◌, ◌-◌, ◌/◌, ◌<◌, ◌==◌, ◌^◌, ◌||◌, ◌∙◌, ◌∷◌, ◌≡◌, ◌≢◌, ◌≤◌, ◌⊎◌}
@@ -150,7 +151,7 @@ pub use Rattle.std.proofs.Math.Seq.{drop-append_seam, take-append_seam, take-tak
 pub use Rattle.std.proofs.lemmas.Bool.{and_parts, cases_Bool, cases_lt, lt-leb}
 pub use Rattle.std.proofs.lemmas.Int.{to_z-of_z}
 pub use Rattle.std.proofs.lemmas.Iterator.Adapters.{position_from-zero}
-pub use Rattle.std.proofs.lemmas.List.{drop-append-le, drop-take, drop_all, flat_map_more, get_or_default, get_or_past, length-map, map-append, take-append-le, take_more}
+pub use Rattle.std.proofs.lemmas.List.{drop-append-le, drop-take, drop_all, flat_map_more, get_or_default, get_or_past, length-map, length-set, map-append, take-append-le, take_more}
 pub use Rattle.std.proofs.lemmas.List.Concat.{flat_map-append}
 pub use Rattle.std.proofs.lemmas.List.Elements.{All-append, All-cons, All-filter, All-from_recursion, All-get_or, All-head, All-map, All-nil, All-tail, filter-append, filter_map-append}
 pub use Rattle.std.proofs.lemmas.List.Folds.{list_any-append, list_any_more}

@@ -1,5 +1,5 @@
 -- The links before the first event.
-use Rattle.sdd_watch.proofs.All.{Bool, Input, List, None, Option, Site, Some, WatchedLink, [], all_sites, ap, are_linked, cond, cons_option, filter_map, filter_map-append, get_or, length, links_from, map, map-append, refl, sym, take, take_all, take_more, true, false, watched_link, watched_links, ℕ, ◌++◌, ◌+◌, ◌<◌, ◌∙◌, ◌∷◌, ◌≡◌, ◌≤◌}
+use Rattle.sdd_watch.proofs.All.{Bool, Input, List, None, Option, Site, Some, WatchedLink, [], all_sites, ap, are_linked, cond, cons_option, filter_map, filter_map-append, get_or, length, map, map-append, refl, sym, take, take_all, take_more, true, false, watched_link, watched_links, ℕ, ◌++◌, ◌+◌, ◌<◌, ◌∙◌, ◌∷◌, ◌≡◌, ◌≤◌}
 
 abbrev to_site : Site → Site → Option (Site × Site)
 to_site from to = cond (are_linked from to) (Some (from, to)) None

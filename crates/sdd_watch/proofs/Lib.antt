@@ -46,8 +46,13 @@ pub use Rattle.sdd_run.proofs as run
 pub mod FirstLinks
 mod LeftAlone
 mod LinksKept
+mod ModulesPassed
 mod ModulesVisited
 mod PipesKept
 mod QueuesKept
 mod QueuesLooked
 mod Reached
+mod ReachedAlone
+mod SitesPassed
+mod SitesPlaced
+mod Touched

@@ -1,8 +1,9 @@
 -- A look at each link, one after the other.
-use Rattle.sdd_watch.proofs.All.{All-at, AreSeen, Bool, Event, Found, Input, IsBetween, IsGood, IsLinkOf, IsOver, IsSiteOf, IsThere, LinkSeen, List, Log, None, OnLinks, Reach, Site, Some, WatchedLink, World, [], all_links, all_sites, and_parts, ap, are_linked, append-nil, arith, arrived_on, cond, cons_option, eqb-true, false, filter, filter_map, flat_map, found_by, get_or, in_left, in_right, is_changed_link, is_site, is_still_link, is_touched, last_event, length, length-map, link_after, link_before, link_of_links, links_from, map, may_act, may_change_from, not, reach_of, refl, seen_between, sent, site_there, slice_get, slice_set, suc, subst, sym, take, take_all, true, watched_link, watched_links, zero, ℕ, ◌&&◌, ◌++◌, ◌+◌, ◌<◌, ◌==◌, ◌||◌, ◌∙◌, ◌∷◌, ◌≡◌, ◌≤◌}
+use Rattle.sdd_watch.proofs.All.{All-at, AreSeen, Bool, Event, Found, Input, IsBetween, IsGood, IsLinkOf, IsOver, IsSiteOf, IsThere, LinkSeen, List, Log, None, OnLinks, Option, Reach, Site, Some, WatchedLink, World, [], all_links, all_sites, and_parts, ap, are_linked, append-nil, arith, arrived_on, cond, cons_option, eqb-true, false, filter_map, flat_map, found_by, get_or, in_left, in_right, is_changed_link, is_site, is_still_link, is_to, last_event, length, length-map, link_after, link_before, link_of_links, links_from, map, may_act, not, reach_of, refl, seen_between, sent, site_there, slice_get, slice_set, suc, subst, sym, take, take_all, touched_from, true, watched_link, watched_links, zero, ℕ, ◌&&◌, ◌++◌, ◌+◌, ◌<◌, ◌==◌, ◌||◌, ◌∙◌, ◌∷◌, ◌≡◌, ◌≤◌}
 use Rattle.sdd_watch.proofs.Happening.{sites_there}
-use Rattle.sdd_watch.proofs.LinksKept.{IsStill, link_stays, nothing_put, site_still}
+use Rattle.sdd_watch.proofs.LinksKept.{IsStill, link_stays, nothing_put}
 use Rattle.sdd_watch.proofs.Reached.{neither, reach_after}
+use Rattle.sdd_watch.proofs.Touched.{touched_is}
 use Rattle.sdd_watch.proofs.Visited.{PlaceAt, all_changed, changed_to, filtered_join, filtered_one, group_more, picked_join, place_at}
 
 -- one link
@@ -32,20 +33,22 @@ as_many_put g old new l good b here e =
     ] refl e
 
 -- a link that is passed over is still
-pub link_passed : (g : Input) (old new : Log) (w : World) (event : Event) (found : Found) (r : Reach) (l : Site × Site) (link : WatchedLink) (b : Bool)
-    → IsOver g old new w event found → r ≡ reach_of g new event found → link ≡ watched_link old l → IsLinkOf g l.0 l.1
-    → b ≡ (is_touched r link.from link.to || may_act r link.from && not (length (sent link.from link.to new) == link.sent)) → b ≡ false
-    → IsStill old new l
-link_passed g old new w event found r l link b over is stood linked test e =
-    let at : r ≡ reach_after g old new new = reach_reported g old new event found r over.event_is over.found_is is in
-    let none = neither (is_touched (reach_after g old new new) l.0 l.1)
+pub link_passed : (g : Input) (old new : Log) (w : World) (event : Event) (found : Found) (touched : Option Site) (acts : Bool) (l : Site × Site)
+    (link : WatchedLink) (b : Bool) → IsOver g old new w event found → touched ≡ touched_from (reach_of g new event found) l.0
+    → acts ≡ may_act (reach_of g new event found) l.0 → link ≡ watched_link old l → IsLinkOf g l.0 l.1
+    → b ≡ (is_to touched link.to || acts && not (length (sent link.from link.to new) == link.sent)) → b ≡ false → IsStill old new l
+link_passed g old new w event found touched acts l link b over goes act stood linked test e =
+    let at : reach_of g new event found ≡ reach_after g old new new =
+    reach_reported g old new event found (reach_of g new event found) over.event_is over.found_is refl in
+    let none = neither (is_to (touched_from (reach_after g old new new) l.0) l.1)
     (may_act (reach_after g old new new) l.0 && not (length (sent l.0 l.1 new) == length (sent l.0 l.1 old)))
-    ((λ i. is_touched (sym at i) (sym stood i).from (sym stood i).to
-    || may_act (sym at i) (sym stood i).from && not (length (sent (sym stood i).from (sym stood i).to new) == (sym stood i).sent))
+    ((λ i. is_to (touched_from (sym at i) l.0) l.1 || may_act (sym at i) l.0 && not (length (sent l.0 l.1 new) == length (sent l.0 l.1 old)))
+    ∙ (λ i. is_to (sym goes i) (sym stood i).to || sym act i && not (length (sent (sym stood i).from (sym stood i).to new) == (sym stood i).sent))
     ∙ sym test ∙ e) in
     let here : IsSiteOf g l.0 =
     (and_parts (is_site g.catalogue.tms g.catalogue.dms l.0) (is_site g.catalogue.tms g.catalogue.dms l.1 && are_linked l.0 l.1) linked).0 in
-    link_stays g old new over.calm.parts.good over.between l.0 l.1 none.0 (as_many_put g old new l over.calm.parts.good over.between here none.1)
+    link_stays g old new over.calm.parts.good over.between l.0 l.1 (sym (touched_is (reach_after g old new new) l.0 l.1) ∙ none.0)
+    (as_many_put g old new l over.calm.parts.good over.between here none.1)
 
 pub link_passed_kept : (old new : Log) (l : Site × Site) (link : WatchedLink) → link ≡ watched_link old l → IsStill old new l → link ≡ watched_link new l
 link_passed_kept old new l link stood s = stood ∙ sym s.kept
@@ -107,6 +110,24 @@ links_there g a here k l e =
     let p = site_there g.catalogue.tms g.catalogue.dms a here in
     link_of_links g.catalogue.tms g.catalogue.dms l.0 l.1 (in_group (links_from g) (all_sites g) p.0 a k l p.1 e)
 
+-- they all come from it
+
+linked_from : (a : Site) (bs : List Site) (k : ℕ) (l : Site × Site) → slice_get (filter_map (λ b. cond (are_linked a b) (Some (a, b)) None) bs) k ≡ Some l
+    → l.0 ≡ a
+linked_from a [] k l e = absurd (let no : None ≡ Some l = e in cc)
+linked_from a (b ∷ bs) zero l e =
+    let rest : List (Site × Site) = filter_map (λ b. cond (are_linked a b) (Some (a, b)) None) bs in
+    elim (are_linked a b) as (λ c. slice_get (cons_option (cond c (Some (a, b)) None) rest) 0 ≡ Some l → l.0 ≡ a) [
+      | true ↦ λ h. (let is : (a, b) ≡ l = cc in ap (λ (x : Site × Site). x.0) (sym is))
+      | false ↦ λ h. linked_from a bs 0 l h
+    ] e
+linked_from a (b ∷ bs) (suc k) l e =
+    let rest : List (Site × Site) = filter_map (λ b. cond (are_linked a b) (Some (a, b)) None) bs in
+    elim (are_linked a b) as (λ c. slice_get (cons_option (cond c (Some (a, b)) None) rest) (suc k) ≡ Some l → l.0 ≡ a) [
+      | true ↦ λ h. linked_from a bs k l h
+      | false ↦ λ h. linked_from a bs (suc k) l h
+    ] e
+
 -- of the first so many links what is kept and was seen
 pub record LinksSoFar (g : Input) (old new : Log) (a : Site) (i : ℕ) (links : List WatchedLink) (first now : OnLinks) : Type 0 where
   pub links_are : links ≡ changed_to (watched_link old) (watched_link new) i (links_from g a)
@@ -141,17 +162,18 @@ at_link g old new a begun links i x first now here e few s is =
 -- one more is looked at
 pub links_more : (g : Input) (old new : Log) (a : Site) (begun links : List WatchedLink) (i : ℕ) (x next : WatchedLink) (first now then : OnLinks)
     → IsSiteOf g a → begun ≡ map (watched_link old) (links_from g a) → i < length begun → LinksSoFar g old new a i links first now → x ≡ get_or links i x
-    → ((l : Site × Site) → IsLinkOf g l.0 l.1 → x ≡ watched_link old l → next ≡ watched_link new l)
-    → ((l : Site × Site) → IsLinkOf g l.0 l.1 → x ≡ watched_link old l → AreSeen old new (l ∷ []) now then)
+    → ((l : Site × Site) → l.0 ≡ a → IsLinkOf g l.0 l.1 → x ≡ watched_link old l → next ≡ watched_link new l)
+    → ((l : Site × Site) → l.0 ≡ a → IsLinkOf g l.0 l.1 → x ≡ watched_link old l → AreSeen old new (l ∷ []) now then)
     → LinksSoFar g old new a (i + 1) (slice_set links i next) first then
 links_more g old new a begun links i x next first now then here e few s is keeps sees =
     let ls : List (Site × Site) = links_from g a in
     let p = link_at g old new a begun links i x first now e few s is in
     let linked = place_linked g old new a links i x here p in
+    let from : p.place.0 ≡ a = linked_from a (all_sites g) i p.place p.is_there in
     record {
-      links_are = p.changed next (keeps p.place linked p.stood);
+      links_are = p.changed next (keeps p.place from linked p.stood);
       seen = subst (λ xs. AreSeen old new xs first then) (sym p.further)
-          (seen_join old new (take i ls) (p.place ∷ []) first now then s.seen (sees p.place linked p.stood));
+          (seen_join old new (take i ls) (p.place ∷ []) first now then s.seen (sees p.place from linked p.stood));
     }
 
 -- all are looked at
@@ -167,23 +189,6 @@ links_over g old new a begun links i first now e past s =
     )
 
 -- all sites
-
--- a site is passed over where none of its links may change
-pub site_passed : (g : Input) (old new : Log) (w : World) (event : Event) (found : Found) (r : Reach) (a : Site) (links : Site × List WatchedLink)
-    (first : OnLinks) (b : Bool) → IsOver g old new w event found → r ≡ reach_of g new event found → IsSiteOf g a → links ≡ watched_links g old a
-    → b ≡ may_change_from r links.0 → b ≡ false → (links ≡ watched_links g new a) × AreSeen old new (links_from g a) first first
-site_passed g old new w event found r a links first b over is here stood test e =
-    let at : r ≡ reach_after g old new new = reach_reported g old new event found r over.event_is over.found_is is in
-    let none : may_change_from (reach_after g old new new) a ≡ false =
-    (λ i. may_change_from (sym at i) (sym stood i).0) ∙ sym test ∙ e in
-    let s = site_still g old new a over.calm.parts.good over.between here none in (
-      stood ∙ ap (λ ws. (a, ws)) (sym s.kept),
-      record {
-        before_are = sym (append-nil first.moments.before.items) ∙ ap (λ ls. first.moments.before.items ++ map (link_before old) ls) (sym s.unchanged);
-        after_are = sym (append-nil first.moments.after.items) ∙ ap (λ ls. first.moments.after.items ++ map (link_after old new) ls) (sym s.unchanged);
-        arrived_are = sym (append-nil first.arrived.items) ∙ ap (λ xs. first.arrived.items ++ xs) (sym s.none);
-      },
-    )
 
 pub record SitesSoFar (g : Input) (old new : Log) (i : ℕ) (links : List (Site × List WatchedLink)) (first now : OnLinks) : Type 0 where
   pub links_are : links ≡ changed_to (watched_links g old) (watched_links g new) i (all_sites g)

@@ -1,5 +1,5 @@
 -- The pipes before the first event: a pipe more of a data module, and a data module more.
-use Rattle.sdd_watch.proofs.All.{ClassNo, D, DmNo, Input, List, Site, WatchedPipe, [], ap, arith, length, map, map-append, map-id, map-range_with_len_more, numbers_to, pipes_at_module, range_with_len, source, suc, sym, watched_pipe, watched_pipes, ℕ, ◌++◌, ◌+◌, ◌-◌, ◌∙◌, ◌∷◌, ◌≡◌, ◌≤◌}
+use Rattle.sdd_watch.proofs.All.{ClassNo, D, DmNo, Input, List, Site, WatchedPipe, [], ap, arith, length, map, map-append, map-range_with_len_more, numbers_to, range_with_len, source, suc, sym, watched_pipe, watched_pipes, ℕ, ◌++◌, ◌+◌, ◌-◌, ◌∙◌, ◌∷◌, ◌≡◌, ◌≤◌}
 
 -- of a data module those of the first so many classes, counted from 0
 abbrev pub first_classes : ℕ → ℕ → List (ℕ × ℕ)

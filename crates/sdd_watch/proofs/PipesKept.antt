@@ -1,5 +1,5 @@
 -- At a data module to which nothing is handed all pipes stay as they are.
-use Rattle.sdd_watch.proofs.All.{Act, ArePipesSeen, Bool, Both, Catalogue, D, Deliver, DmNo, Down, Entry, Event, Input, IsBetween, IsGood, IsLawful, IsMark, IsSiteOf, IsThere, List, Log, Lose, Mark, None, Option, Pipe, PipeMoment, Redeclares, Repeat, Resend, Site, Some, Submit, Submitted, T, Tick, Txn, U, Up, WatchedPipe, [], all_links, and_parts, ap, append-nil, arith, base_of, came, class_for, class_no, cond, dm_no, drop, drop_all, eq-eqb, false, filter, filter_map, handed, if◌then◌else◌, is_changed_pipe, is_empty, is_reached, leb-true, length, list_any, local_of, map, mark_due, nat_le, next_at, next_in, none_at_data, not, nth_era, number_through, pipe, pipe_after, pipe_before, pipes_at_module, redeclares, refl, same_site, setting_of, site_due, site_of, site_self, slice_get, source, subst, suc, sym, takes_at, true, txn_at, watched_pipe, watched_pipes, zero, ℕ, ◌&&◌, ◌++◌, ◌-◌, ◌==◌, ◌||◌, ◌∙◌, ◌∷◌, ◌≡◌}
+use Rattle.sdd_watch.proofs.All.{Act, ArePipesSeen, Bool, Both, Catalogue, D, Deliver, DmNo, Down, Entry, Event, Input, IsBetween, IsGood, IsLawful, IsMark, IsSiteOf, IsThere, List, Log, Lose, Mark, None, Option, PipeMoment, Redeclares, Repeat, Resend, Site, Some, Submit, Submitted, T, Tick, Txn, U, Up, WatchedPipe, [], all_links, and_parts, ap, append-nil, arith, base_of, came, class_for, class_no, cond, dm_no, drop, drop_all, eq-eqb, false, filter, filter_map, handed, if◌then◌else◌, is_changed_pipe, is_empty, is_reached, leb-true, length, list_any, local_of, map, mark_due, nat_le, next_at, next_in, none_at_data, not, nth_era, number_through, pipe, pipe_after, pipe_before, pipes_at_module, redeclares, refl, same_site, setting_of, site_due, site_of, site_self, slice_get, source, suc, sym, takes_at, true, txn_at, watched_pipe, watched_pipes, zero, ℕ, ◌&&◌, ◌++◌, ◌-◌, ◌==◌, ◌∙◌, ◌∷◌, ◌≡◌}
 use Rattle.sdd_watch.proofs.Came.{handed_parts, none_still}
 use Rattle.sdd_watch.proofs.LeftAlone.{left_alone}
 use Rattle.sdd_watch.proofs.LinksLooked.{as_many}
@@ -118,6 +118,12 @@ module _ (g : Input) (old new : Log) (good : IsGood g) (b : IsBetween g old new)
       ap (λ b. cond b ((d, c) ∷ filter (is_changed_pipe g old new) (map (λ c. (d, c)) cs)) (filter (is_changed_pipe g old new) (map (λ c. (d, c)) cs)))
       (pipe_unchanged c)
       ∙ none_changed cs
+
+  pub module_stays : watched_pipes g new d ≡ watched_pipes g old d
+  module_stays = ap (λ ws. (D (dm_no d), ws)) (classes_kept (classes_of (setting_of g (D (dm_no d)))))
+
+  pub module_unchanged : filter (is_changed_pipe g old new) (pipes_at_module g d) ≡ []
+  module_unchanged = none_changed (classes_of (setting_of g (D (dm_no d))))
 
   pub module_kept : (pipes : Site × List WatchedPipe) → pipes ≡ watched_pipes g old d → pipes ≡ watched_pipes g new d
   module_kept pipes stood = stood ∙ ap (λ ws. (D (dm_no d), ws)) (sym (classes_kept (classes_of (setting_of g (D (dm_no d))))))

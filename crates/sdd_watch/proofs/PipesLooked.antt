@@ -1,7 +1,8 @@
 -- A look at a pipe, at what is read of it in the world.
-use Rattle.sdd_watch.proofs.All.{AllRepresent, Arrived, Bool, D, Digest, DmNo, Input, IsBetween, IsDigest, IsGood, IsSiteOf, Kept, List, LivesD, Log, Msg, None, Option, Pipe, PipeMoment, Setting, Site, Sites, Some, State, Ts, WatchedPipe, [], and_parts, ap, arith, arrived, came, class_no, dm_no, drop, eqb-true, false, filter_map, find, greatest, head_of, is_changed_pipe, is_empty, is_on, lawful_permitted, length, local_grows, local_of, map, messages_in, not, number_for, numbers_for, or_zero, passed_to, passed_with, pipe, pipe_after, pipe_at, pipe_before, processed_grows, refl, setting_of, source, subst, sym, time_at, time_of, time_passed, true, watched_pipe, ℕ, ◌&&◌, ◌++◌, ◌+◌, ◌-◌, ◌==◌, ◌∙◌, ◌∷◌, ◌≡◌, ◌≤◌}
+use Rattle.sdd_watch.proofs.All.{AllRepresent, Arrived, Bool, D, Digest, DmNo, Input, IsBetween, IsDigest, IsGood, IsSiteOf, Kept, List, LivesD, Log, Msg, None, Option, Pipe, PipeMoment, Setting, Site, Sites, Some, State, Ts, WatchedPipe, [], and_parts, ap, arith, arrived, came, class_no, dm_no, drop, eqb-true, false, filter_map, find, greatest, head_of, if◌then◌else◌, is_changed_pipe, is_empty, is_on, lawful_permitted, length, list_any, local_grows, local_of, map, messages_in, not, number_for, numbers_for, or_zero, passed_to, passed_with, pipe, pipe_after, pipe_at, pipe_before, processed_grows, refl, same_site, setting_of, source, subst, sym, time_at, time_of, time_passed, true, watched_pipe, ℕ, ◌&&◌, ◌++◌, ◌+◌, ◌-◌, ◌==◌, ◌∙◌, ◌∷◌, ◌≡◌, ◌≤◌}
 use Rattle.sdd_watch.proofs.Came.{all_came, came_is, more_came, processed_is}
 use Rattle.sdd_watch.proofs.Between.{joined_more}
+use Rattle.sdd_watch.proofs.Reached.{neither}
 use Rattle.sdd_watch.proofs.Sourced.{source_there}
 use Rattle.sdd_run.specs.world.Modules.{Represent}
 use Rattle.sdd_obligations.specs.pipe.Digest as digest
@@ -158,16 +159,27 @@ idle_stays g old new d c good b few idle none =
     let r = processed_rises g old new d c b in
     omega (arith, a, z, m, n, r, idle)
 
+not_so : (b : Bool) → not b ≡ true → b ≡ false
+not_so true e = let no : false ≡ true = e in cc
+not_so false e = refl
+
+none_from : (a b : Site) (known : List Arrived) → list_any (λ (one : Arrived). same_site one.from a) known ≡ false → find (is_on a b) known ≡ None
+none_from a b [] e = refl
+none_from a b (one ∷ known) e =
+    let none = neither (same_site one.from a) (list_any (λ (one : Arrived). same_site one.from a) known) e in
+    ap (λ c. if c && same_site one.to b then Some one else find (is_on a b) known) none.0 ∙ none_from a b known none.1
+
 pub pipe_idle : (g : Input) (old new : Log) (d c : ℕ) (w : WatchedPipe) (idle : Bool) (here : List Arrived) → IsGood g → IsBetween g old new
     → IsSiteOf g (D (dm_no d)) → c ≤ length g.catalogue.classes → w ≡ watched_pipe g old (d, c) → here ≡ arrived g old new
-    → idle ≡ (w.unprocessed == 0 && is_empty (messages_in (find (is_on w.source (D w.dm)) here))) → idle ≡ true
+    → idle ≡ (w.unprocessed == 0 && not (list_any (λ (one : Arrived). same_site one.from w.source) here)) → idle ≡ true
     → (w ≡ watched_pipe g new (d, c)) × (is_changed_pipe g old new (d, c) ≡ false)
 pipe_idle g old new d c w idle here good b site few is all test is_idle =
-    let both = and_parts (w.unprocessed == 0) (is_empty (messages_in (find (is_on w.source (D w.dm)) here))) (sym test ∙ is_idle) in
+    let others : Bool = list_any (λ (one : Arrived). same_site one.from w.source) here in
+    let both = and_parts (w.unprocessed == 0) (not others) (sym test ∙ is_idle) in
     let done : w.unprocessed ≡ 0 = eqb-true w.unprocessed 0 both.0 in
     let numbers : List ℕ = numbers_for w.source (D w.dm) w.class.0 here in
     let empty : numbers ≡ [] =
-    ap (filter_map (number_for w.class.0)) (nothing_in (messages_in (find (is_on w.source (D w.dm)) here)) both.1) in
+    ap (λ o. filter_map (number_for w.class.0) (messages_in o)) (none_from w.source (D w.dm) here (not_so others both.1)) in
     let came_are = numbers_came g old new d c w numbers here good b site is all refl in
     let left = idle_stays g old new d c good b few (ap (λ (x : WatchedPipe). x.unprocessed) (sym is) ∙ done) (sym came_are ∙ empty) in
     pipe_quiet g old new d c w numbers 0 true here good b site few is all left refl (sym (λ i. is_empty (empty i) && done i == 0)) refl

@@ -1,5 +1,5 @@
 -- What an event leaves as it was: the links that it doesn't touch, and what is handed to the sites that don't act.
-use Rattle.sdd_watch.proofs.All.{Ack, Across, Along, Around, Bool, Deliver, Does, Down, Entry, Event, Found, From, Hand, Input, IsBetween, IsGood, IsMark, IsPermitted, IsSiteOf, IsThere, Link, Log, Lose, Mark, Message, Msg, None, Notes, Nowhere, Option, Packet, Reach, Redeclare, Redeclares, Repeat, Resend, Site, Some, Submit, Submitted, U, Up, Way, [], ack_same, allowed_hand, and_parts, ap, arith, arrived_by, calls_of, deliver, delivered, delivered_deliver, delivered_lose, delivered_puts, delivered_repeat, delivered_resend, false, found_by, given_by, handed, if◌then◌else◌, is_between, is_down, is_touched, last_event, lawful_permitted, length, link, link_of, local_of, lose, mark_due, marks, may_act, newly_delivered, not, note_if, nth_era, packet_at, part_up, puts, puts_to, reach_of, reach_of_delivery, redeclares, refl, repeat, resend, same_site, sends_of_act, sent, sent_is, site_is, site_of, site_self, subst, suc, sym, takes_at, true, turned, txn_at, ℕ, ◌&&◌, ◌++◌, ◌==◌, ◌||◌, ◌∙◌, ◌∷◌, ◌≡◌}
+use Rattle.sdd_watch.proofs.All.{Ack, Bool, Deliver, Does, Down, Entry, Event, Found, Hand, Input, IsBetween, IsGood, IsMark, IsPermitted, IsSiteOf, Link, Log, Lose, Mark, Message, Msg, None, Notes, Option, Packet, Reach, Redeclares, Repeat, Resend, Site, Some, Submit, Submitted, U, Up, [], ack_same, allowed_hand, ap, arith, arrived_by, calls_of, deliver, delivered, delivered_deliver, delivered_lose, delivered_puts, delivered_repeat, delivered_resend, false, found_by, given_by, handed, if◌then◌else◌, is_between, is_down, is_touched, last_event, lawful_permitted, link_of, local_of, lose, mark_due, marks, may_act, newly_delivered, not, note_if, nth_era, packet_at, part_up, reach_of, reach_of_delivery, redeclares, refl, repeat, resend, same_site, sends_of_act, site_of, site_self, subst, sym, takes_at, true, turned, txn_at, ℕ, ◌&&◌, ◌++◌, ◌||◌, ◌∙◌, ◌∷◌, ◌≡◌}
 use Rattle.sdd_watch.proofs.Between.{last_is, same_link}
 use Rattle.sdd_watch.proofs.LeftAlone.{due_after_mark, left_alone, takes_more, unhanded}
 

@@ -1,5 +1,6 @@
 -- Which sites take part in an event.
-use Rattle.sdd_watch.proofs.All.{Arrived, Bool, Down, Event, Found, Input, List, Log, Redeclare, Site, Submit, Tick, TmNo, TxnNo, U, Up, [], all_links, ap, append-nil, arrived, arrived_on, concerns, cons_option, false, filter, filter_map, found_by, given_to, handed, if◌then◌else◌, is_reached, last_event, list_any, not, refl, same_site, sym, takes_part, true, ℕ, ◌&&◌, ◌++◌, ◌==◌, ◌||◌, ◌∙◌, ◌∷◌, ◌≡◌}
+use Rattle.sdd_watch.proofs.All.{Arrived, Bool, Down, Event, Found, Input, List, Log, Redeclare, Site, Submit, Tick, TmNo, TxnNo, Up, [], all_links, ap, append-nil, arrived, arrived_on, concerns, cons_option, Deliver, false, filter, filter_map, found_by, given_to, handed, home_in, if◌then◌else◌, is_reached, last_event, list_any, not, reach_of, refl, same_site, sym, takes_part, true, ℕ, ◌&&◌, ◌++◌, ◌==◌, ◌||◌, ◌∙◌, ◌∷◌, ◌≡◌}
+use Rattle.sdd_inside.specs.declared.delta.Found.TheVariants as founds
 use Rattle.sdd_watch.proofs.Came.{arrived_if, still}
 
 abbrev is_to : Site → Arrived → Bool
@@ -45,10 +46,11 @@ of_none g log (Up here) found at a b c k r = absurd (k here refl)
 of_none g log Redeclare found at a b c d r = absurd (r refl)
 of_none g log _ found at a b c d r = refl
 
--- by no other event a transaction is given
-pub given_otherwise : (g : Input) (log : Log) (e : Event) → ((n : TxnNo) → e ≡ Submit n → ⊥) → U ≡ given_to g log e
-given_otherwise g log (Submit n) other = absurd (other n refl)
-given_otherwise g log _ other = refl
+-- what is reached tells to which site the event gives a transaction
+pub given_is : (g : Input) (log : Log) (e : Event) (found : Found) → home_in (reach_of g log e found) ≡ given_to g log e
+given_is g log (Deliver a b k) (founds.Acknowledged upto acked) = refl
+given_is g log (Deliver a b k) _ = refl
+given_is g log _ found = refl
 
 -- a site more
 

@@ -1,6 +1,6 @@
 -- A loop that changes each member of a list, each of which stands for a place: those before the place at hand are as they shall
 -- be, and the others still as they were.
-use Rattle.sdd_watch.proofs.All.{Bool, List, Option, Some, [], ap, append-nil, append_assoc, arith, cond, drop, filter, filter-append, filter_map, filter_map-append, flat_map, flat_map-append, get_or, length, map, map-append, refl, slice_get, slice_set, subst, suc, sym, take, zero, ℕ, ◌++◌, ◌<◌, ◌∙◌, ◌∷◌, ◌≡◌, ◌≤◌}
+use Rattle.sdd_watch.proofs.All.{Bool, List, Option, Some, [], ap, append-nil, append_assoc, arith, cond, drop, filter, filter-append, filter_map, filter_map-append, flat_map, flat_map-append, get_or, length, length-map, map, map-append, refl, slice_get, slice_set, subst, suc, sym, take, zero, ℕ, ◌++◌, ◌<◌, ◌∙◌, ◌∷◌, ◌≡◌, ◌≤◌}
 
 -- as they are when so many are changed
 abbrev pub changed_to : {S W : Type 0} → (S → W) → (S → W) → ℕ → List S → List W
@@ -47,6 +47,49 @@ all_changed old new zero [] past = refl
 all_changed old new (suc i) [] past = refl
 all_changed old new zero (p ∷ places) past = absurd (omega (arith, past))
 all_changed old new (suc i) (p ∷ places) past = ap (λ ys. new p ∷ ys) (all_changed old new i places (omega (arith, past)))
+
+pub length_changed : {S W : Type 0} (old new : S → W) (i : ℕ) (places : List S) → length (changed_to old new i places) ≡ length places
+length_changed old new zero places = length-map places old
+length_changed old new (suc i) [] = refl
+length_changed old new (suc i) (p ∷ places) = ap suc (length_changed old new i places)
+
+-- Places are passed over where what stands there shall be as it was.
+pub passed_to : {S W : Type 0} (old new : S → W) (places : List S) (i j : ℕ) → i ≤ j
+    → ((k : ℕ) (p : S) → i ≤ k → k < j → slice_get places k ≡ Some p → new p ≡ old p) → changed_to old new i places ≡ changed_to old new j places
+passed_to old new [] zero zero more same = refl
+passed_to old new [] zero (suc j) more same = refl
+passed_to old new [] (suc i) zero more same = refl
+passed_to old new [] (suc i) (suc j) more same = refl
+passed_to old new (p ∷ places) zero zero more same = refl
+passed_to old new (p ∷ places) zero (suc j) more same =
+    let here = sym (same 0 p (omega arith) (omega arith) refl) in
+    let rest = passed_to old new places zero j (omega arith) (λ k q low high e. same (suc k) q (omega arith) (omega (arith, high)) e) in
+    (λ i. here i ∷ rest i)
+passed_to old new (p ∷ places) (suc i) zero more same = absurd (omega (arith, more))
+passed_to old new (p ∷ places) (suc i) (suc j) more same =
+    ap (λ ys. new p ∷ ys)
+    (passed_to old new places i j (omega (arith, more)) (λ k q low high e. same (suc k) q (omega (arith, low)) (omega (arith, high)) e))
+
+-- A list is put together of groups, and of some of them nothing is taken.
+module _ {A B C : Type 0} (F : List B → List C) (nil : F [] ≡ []) (join : (xs ys : List B) → F (xs ++ ys) ≡ F xs ++ F ys) (h : A → List B) where
+  pub groups_passed : (places : List A) (i j : ℕ) → i ≤ j
+      → ((k : ℕ) (p : A) → i ≤ k → k < j → slice_get places k ≡ Some p → F (h p) ≡ [])
+      → F (flat_map h (take i places)) ≡ F (flat_map h (take j places))
+  groups_passed [] zero zero more none = refl
+  groups_passed [] zero (suc j) more none = refl
+  groups_passed [] (suc i) zero more none = refl
+  groups_passed [] (suc i) (suc j) more none = refl
+  groups_passed (p ∷ places) zero zero more none = refl
+  groups_passed (p ∷ places) zero (suc j) more none =
+      groups_passed places zero j (omega arith) (λ k q low high e. none (suc k) q (omega arith) (omega (arith, high)) e)
+      ∙ ap (λ ys. ys ++ F (flat_map h (take j places))) (sym (none 0 p (omega arith) (omega arith) refl))
+      ∙ sym (join (h p) (flat_map h (take j places)))
+  groups_passed (p ∷ places) (suc i) zero more none = absurd (omega (arith, more))
+  groups_passed (p ∷ places) (suc i) (suc j) more none =
+      join (h p) (flat_map h (take i places))
+      ∙ ap (λ ys. F (h p) ++ ys) (groups_passed places i j (omega (arith, more))
+      (λ k q low high e. none (suc k) q (omega (arith, low)) (omega (arith, high)) e))
+      ∙ sym (join (h p) (flat_map h (take j places)))
 
 -- what is made of a place more
 

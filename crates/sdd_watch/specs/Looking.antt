@@ -18,7 +18,7 @@ use Rattle.sdd_watch.specs.declared.waiting.Purpose.{Purpose}
 use Rattle.sdd_watch.specs.declared.waiting.Purpose.TheVariants.{Applied, Piped}
 use Rattle.sdd_watch.specs.declared.watched_link.Arrived.{Arrived}
 use Rattle.sdd_watch.specs.declared.watched_link.LinkSeen.{LinkSeen}
-use Rattle.sdd_watch.specs.declared.watched_link.OnLinks.{OnLinks}
+use Rattle.sdd_watch.specs.declared.on_links.OnLinks.{OnLinks}
 use Rattle.sdd_watch.specs.declared.watched_link.WatchedLink.{WatchedLink}
 
 -- links: after the packets that stayed these were put, and so many messages are put and handed over in all

@@ -8,8 +8,10 @@
 //! an event changed is read from the world after it. Looked at are the links of the sites that the
 //! event names or at which it lets something be done, the pipes of the data modules to which messages
 //! were handed, and the queues, where a transaction entered one or left it: by the log all others stay
-//! as they are (`proofs/LinksKept.antt`, `PipesKept.antt`, `QueuesKept.antt`). So an event costs what it
-//! changes, a step for each site, and a look at the links and pipes of one or two sites.
+//! as they are (`proofs/LinksKept.antt`, `PipesKept.antt`, `QueuesKept.antt`). These sites are found by
+//! their places in the order of sites (`proofs/SitesPassed.antt`, `ModulesPassed.antt`). So an event
+//! costs what it changes, and a look at the links and pipes of one or two sites; a step for each site
+//! only where a transaction entered a queue or left one, or where an event isn't one of a link.
 #![tactic(auto)]
 
 mod at_site;
@@ -19,6 +21,7 @@ mod dones;
 mod foreseen;
 mod inside;
 mod law;
+mod on_links;
 mod places;
 mod queues;
 mod reach;

@@ -1,5 +1,6 @@
 //! The sites of a network, in their order, and between which of them links are.
 ghost use Rattle.std.specs.Prelude.{◌≡◌, ◌≤◌, IfOk};
+ghost use Rattle.sdd_obligations.specs.net.Nets.{place_of};
 ghost use Rattle.sdd_obligations.specs.All.{MAX_DMS, MAX_TMS, are_linked as are_linked_by, same_site, sites};
 
 use sdd_obligations::{DmNo, NoMemory, Site, TmNo};
@@ -14,6 +15,18 @@ pub(crate) fn is_same(one: Site, other: Site) -> bool
         (Site::T(one), Site::T(other)) => one.0 == other.0,
         (Site::D(one), Site::D(other)) => one.0 == other.0,
         _ => false,
+    }
+}
+
+/// The place of a site in the order of sites, counted from 0, where there are so many transaction
+/// modules.
+pub(crate) fn place_of(tms: u32, at: Site) -> usize
+    ensures { result ≡ place_of tms at }
+{
+    match at {
+        Site::U => 0,
+        Site::T(tm) => tm.0 as usize,
+        Site::D(dm) => tms as usize + dm.0 as usize,
     }
 }
 

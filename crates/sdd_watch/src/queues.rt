@@ -13,7 +13,7 @@ use crate::both::Both;
 use crate::places::all_sites;
 use crate::reach::{Reach, may_act};
 use sdd_inside::QueueMoment;
-use sdd_obligations::{Listed, NoMemory, Rec, Site, TmNo};
+use sdd_obligations::{Listed, NoMemory, Parcel, Rec, Site, TmNo, TxnNo};
 use sdd_run::{ClassRun, Line, World};
 use std::alloc::Global;
 use std::mem;
@@ -120,6 +120,30 @@ fn looks(moved: bool, reach: Reach, at: Site) -> bool
     moved && may_act(reach, at)
 }
 
+fn copy_of(alloc: Global, moment: &QueueMoment) -> Result<QueueMoment, NoMemory>
+    ensures { IfOk result (λ copy. copy ≡ moment.now) }
+{
+    let queue = TxnNo::copy_all(alloc, moment.queue.as_slice())?;
+    Ok(QueueMoment {
+        class: moment.class,
+        queue: Listed::from_vec(queue),
+    })
+}
+
+/// Adds copies of queues.
+fn add_copies(
+    alloc: Global,
+    queues: &[QueueMoment],
+    copies: &mut Vec<QueueMoment>,
+) -> Result<(), NoMemory>
+    ensures { OnOk result (copies.new.items ≡ copies.old.items ++ queues.now) }
+{
+    for queue in queues {
+        copies.push(copy_of(alloc, queue)?)?;
+    }
+    Ok(())
+}
+
 /// Adds the queues of a site as they were and as they are, and keeps them, where they are looked at.
 fn look_at_queues_of(
     alloc: Global,
@@ -146,9 +170,9 @@ fn look_at_queues_of(
     }
     let mut after = Vec::new(alloc);
     add_queues_of(world, at, &mut after)?;
+    add_copies(alloc, after.as_slice(), &mut both.after)?;
     let mut before = mem::replace(&mut queues.parts, after);
     both.before.append(&mut before)?;
-    add_queues_of(world, at, &mut both.after)?;
     Ok(())
 }
 

@@ -1,10 +1,11 @@
 //! Which links an event may have changed.
-ghost use Rattle.std.specs.Prelude.{◌≡◌};
-ghost use Rattle.sdd_obligations.specs.All.{Input, Log};
+ghost use Rattle.std.specs.Prelude.{◌≡◌, ◌≤◌, ◌<◌, ℕ, false};
+ghost use Rattle.sdd_obligations.specs.All.{Input, Log, Site as Place};
+ghost use Rattle.sdd_obligations.specs.net.Nets.{place_of};
 ghost use Rattle.sdd_run.specs.world.Represents.{Calm};
-ghost use Rattle.sdd_watch.specs.Reaching.{is_between, is_touched, may_act, may_change_from, reach_of, reach_of_delivery};
+ghost use Rattle.sdd_watch.specs.Reaching.{actor, home_in, is_to, may_act, may_change_from, other_end, reach_of, reach_of_delivery, touched_from};
 
-use crate::places::is_same;
+use crate::places::{is_same, place_of};
 use crate::taking_part::home_of;
 use sdd_inside::Found;
 use sdd_obligations::{Event, Site};
@@ -63,33 +64,84 @@ pub(crate) fn may_act(reach: Reach, at: Site) -> bool
     }
 }
 
-fn is_between(a: Site, b: Site, from: Site, to: Site) -> bool
-    ensures { result ≡ is_between a b from to }
-{
-    (is_same(from, a) && is_same(to, b)) || (is_same(from, b) && is_same(to, a))
-}
-
-/// Whether a link may have changed though no message was put on it.
-pub(crate) fn is_touched(reach: Reach, from: Site, to: Site) -> bool
-    ensures { result ≡ is_touched reach from to }
+/// The site that may have acted, if one may.
+pub(crate) fn actor(reach: Reach) -> Option<Site>
+    ensures { result ≡ actor reach }
 {
     match reach {
-        Reach::Nowhere | Reach::From(_) => false,
-        Reach::Along(a, b) => is_between(a, b, from, to),
-        Reach::Across(a, b) => is_between(a, b, from, to),
-        Reach::Around(a) => is_same(to, a),
+        Reach::Nowhere | Reach::Along(_, _) => None,
+        Reach::Across(_, b) => Some(b),
+        Reach::From(a) => Some(a),
+        Reach::Around(a) => Some(a),
     }
 }
 
-/// Whether one of the links from a site may have changed.
-pub(crate) fn may_change_from(reach: Reach, from: Site) -> bool
-    ensures { result ≡ may_change_from reach from }
+/// The other one of two sites, where a site is one of them.
+fn other_end(a: Site, b: Site, at: Site) -> Option<Site>
+    ensures { result ≡ other_end a b at }
+{
+    if is_same(at, a) {
+        return Some(b);
+    }
+    if is_same(at, b) {
+        return Some(a);
+    }
+    None
+}
+
+/// The site to which the link from a site may have changed though no message was put on it.
+pub(crate) fn touched_from(reach: Reach, from: Site) -> Option<Site>
+    ensures { result ≡ touched_from reach from }
 {
     match reach {
-        Reach::Nowhere => false,
-        Reach::Along(a, b) => is_same(from, a) || is_same(from, b),
-        Reach::Across(a, b) => is_same(from, a) || is_same(from, b),
-        Reach::From(a) => is_same(from, a),
-        Reach::Around(_) => true,
+        Reach::Nowhere | Reach::From(_) => None,
+        Reach::Along(a, b) => other_end(a, b, from),
+        Reach::Across(a, b) => other_end(a, b, from),
+        Reach::Around(a) => Some(a),
+    }
+}
+
+/// Whether a site is that one.
+pub(crate) fn is_to(one: Option<Site>, to: Site) -> bool
+    ensures { result ≡ is_to one to }
+{
+    match one {
+        Some(one) => is_same(to, one),
+        None => false,
+    }
+}
+
+/// A place, where it is this one at least, and else one past all.
+fn if_ahead(from: usize, place: usize) -> usize
+    ensures ahead { from ≤ result }
+    ensures passed { (k : ℕ) → from ≤ k → k < result → (k ≡ place → ⊥) }
+{
+    if place < from { usize::MAX } else { place }
+}
+
+/// The first place from this one on at which a site stands one of whose links may have changed,
+/// where there are so many transaction modules; it may be past all sites.
+pub(crate) fn next_reached(tms: u32, reach: Reach, from: usize) -> usize
+    ensures ahead { from ≤ result }
+    ensures passed { (x : Place) → from ≤ place_of tms x → place_of tms x < result
+        → may_change_from reach x ≡ false }
+{
+    match reach {
+        Reach::Nowhere => usize::MAX,
+        Reach::Along(a, b) | Reach::Across(a, b) => {
+            if_ahead(from, place_of(tms, a)).min(if_ahead(from, place_of(tms, b)))
+        }
+        Reach::From(a) => if_ahead(from, place_of(tms, a)),
+        Reach::Around(_) => from,
+    }
+}
+
+/// The site to which an event gives a transaction, and U where it gives none.
+pub(crate) fn home_in(reach: Reach) -> Site
+    ensures { result ≡ home_in reach }
+{
+    match reach {
+        Reach::From(home) => home,
+        _ => Site::U,
     }
 }

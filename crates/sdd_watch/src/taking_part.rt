@@ -8,7 +8,7 @@ ghost use Rattle.sdd_run.specs.world.Represents.{Calm};
 ghost use Rattle.sdd_watch.specs.Happens.{concerns, found_by, is_something, last_event, takes_part};
 ghost use Rattle.sdd_watch.specs.Reaching.{given_to};
 ghost use Rattle.sdd_watch.specs.States.{state_of};
-ghost use Rattle.sdd_watch.specs.Watching.{AreDones, IsOver, arrived as arrived_between};
+ghost use Rattle.sdd_watch.specs.Watching.{AreDones, all_sites, arrived as arrived_between};
 
 use crate::dones::Dones;
 use crate::places::is_same;
@@ -56,17 +56,6 @@ fn is_found_at(found: &Found, here: Site, at: Site) -> bool
     ensures { result ≡ (is_something found.now && same_site here at) }
 {
     is_something(found) && is_same(here, at)
-}
-
-/// The site to which an event gives a transaction, and U where it gives none.
-fn given_to(world: &World<'_>, event: &Event) -> Site
-    requires { (g : Input) × (log : Log) × Calm world.now g log }
-    ensures { (g : Input) (log : Log) → Calm world.now g log → result ≡ given_to g log event.now }
-{
-    match event {
-        Event::Submit(number) => home_of(world, *number),
-        _ => Site::U,
-    }
 }
 
 /// Whether an event by itself lets a site take part, which gives a transaction, if any, to `home`.
@@ -138,29 +127,55 @@ fn is_on_link(event: &Event) -> bool
     }
 }
 
-/// The sites that take part in an event that is carried out, in their order.
-pub(crate) fn busy(
+/// The sites to which messages were handed.
+fn reached(alloc: Global, arrived: &[Arrived]) -> Result<Vec<Site>, NoMemory>
+    ensures { IfOk result (λ sites. sites.items ≡ map (λ one. one.to) arrived.now) }
+{
+    Ok(arrived.iter().map(|one| one.to).collect(alloc)?)
+}
+
+/// The sites, among these, that take part in an event that is carried out and gives a transaction,
+/// if any, to `home`.
+fn busy_among(
     alloc: Global,
-    world: &World<'_>,
     event: &Event,
     found: &Found,
+    home: Site,
     arrived: &[Arrived],
     sites: &[Site],
 ) -> Result<Vec<Site>, NoMemory>
-    requires { (g : Input) × (old : Log) × (new : Log)
-        × IsOver g old new world.now event.now found.now }
-    ensures { IfOk result (λ busy. (g : Input) (old new : Log)
-        → IsOver g old new world.now event.now found.now → arrived.now ≡ arrived_between g old new
+    ensures { IfOk result (λ busy. (g : Input) (old new : Log) → event.now ≡ last_event new
+        → found.now ≡ found_by event.now old new → arrived.now ≡ arrived_between g old new
+        → home ≡ given_to g new event.now
         → busy.items ≡ filter (takes_part g old new) sites.now) }
 {
     let mut busy = Vec::new(alloc);
-    if arrived.is_empty() && is_on_link(event) {
-        return Ok(busy);
-    }
-    let home = given_to(world, event);
     for at in sites {
         add_busy(event, found, home, arrived, *at, &mut busy)?;
     }
+    Ok(busy)
+}
+
+/// The sites that take part in an event that is carried out, in their order. At an event on a link
+/// these are the sites to which messages were handed.
+pub(crate) fn busy(
+    alloc: Global,
+    event: &Event,
+    found: &Found,
+    home: Site,
+    arrived: &[Arrived],
+    sites: &[Site],
+) -> Result<Vec<Site>, NoMemory>
+    ensures { IfOk result (λ busy. (g : Input) (old new : Log) → event.now ≡ last_event new
+        → found.now ≡ found_by event.now old new → arrived.now ≡ arrived_between g old new
+        → home ≡ given_to g new event.now → sites.now ≡ all_sites g
+        → busy.items ≡ filter (takes_part g old new) (all_sites g)) }
+{
+    if arrived.len() < 2 && is_on_link(event) {
+        let busy = reached(alloc, arrived)?;
+        return Ok(busy);
+    }
+    let busy = busy_among(alloc, event, found, home, arrived, sites)?;
     Ok(busy)
 }
 

@@ -3,6 +3,7 @@ ghost use Rattle.std.specs.Prelude.{◌≡◌, ◌++◌, ◌∷◌, [], cond, le
 ghost use Rattle.sdd_obligations.specs.All.{Input, Log, are_linked as are_linked_by, history};
 ghost use Rattle.sdd_run.specs.world.Represents.{Calm};
 ghost use Rattle.sdd_watch.specs.Happens.{happened_at, rows_of};
+ghost use Rattle.sdd_watch.specs.Reaching.{given_to};
 ghost use Rattle.sdd_watch.specs.Text.{change};
 ghost use Rattle.sdd_watch.specs.Watching.{AreCommits, IsBetween, IsOver, IsTurn, Knows, Watches, all_sites, arrived as arrived_between, watched_link, watched_links};
 
@@ -10,12 +11,13 @@ use crate::at_site::AtSite;
 use crate::both::Both;
 use crate::commits::Commits;
 use crate::dones::Dones;
+use crate::on_links::{OnLinks, look_at_links};
 use crate::places::{all_sites, are_linked};
 use crate::queues::{all_queues, have_moved, look_at_queues};
-use crate::reach::reach_of;
+use crate::reach::{home_in, reach_of};
 use crate::rows::rows_from;
 use crate::taking_part::{busy, states};
-use crate::watched_link::{Arrived, OnLinks, WatchedLink, look_at_links};
+use crate::watched_link::{Arrived, WatchedLink};
 use crate::watched_pipe::{WatchedPipe, first_pipes, look_at_pipes};
 use sdd_inside::{
     Delta, Found, Happened, LinkMoment, Moment, PipeMoment, QueueMoment, RowDelta, difference,
@@ -162,36 +164,54 @@ impl Watch {
             → IsOver g old new world.now turn.event found → IsTurn g old new turn
             → Watches g old self.old → Watches g new self.new) }
     {
-        let seen = look_at_links(self.alloc, world, &turn.event, &found, &mut self.links)?;
+        let reach = reach_of(world, &turn.event, &found);
+        let tms = world.whole().tms();
+        let seen = look_at_links(
+            self.alloc,
+            world,
+            &turn.event,
+            &found,
+            reach,
+            tms,
+            &mut self.links,
+        )?;
         let OnLinks {
             moments: links,
             arrived,
         } = seen;
         let moved = have_moved(world.history().as_slice(), self.records);
-        let reach = reach_of(world, &turn.event, &found);
         let queues = look_at_queues(self.alloc, world, moved, reach, &mut self.queues)?;
-        let pipes = look_at_pipes(self.alloc, world, arrived.as_slice(), &mut self.pipes)?;
-        let happened = self.describe_event(world, turn, found, arrived.as_slice())?;
+        let pipes = look_at_pipes(
+            self.alloc,
+            world,
+            reach,
+            arrived.as_slice(),
+            &mut self.pipes,
+        )?;
+        let home = home_in(reach);
+        let happened = self.describe_event(world, turn, found, home, arrived.as_slice())?;
         let (before, after) = moments(links, queues, pipes);
         let delta = difference(self.alloc, happened, &before, &after)?;
         Ok(delta)
     }
 
-    /// What happened at an event that is carried out, where these messages were handed over.
+    /// What happened at an event that is carried out and gives a transaction, if any, to `home`, where
+    /// these messages were handed over.
     fn describe_event(
         &mut self,
         world: &World<'_>,
         turn: Turn,
         found: Found,
+        home: Site,
         arrived: &[Arrived],
     ) -> Result<Happened, NoMemory>
         requires { (g : Input) × (old : Log) × (new : Log)
             × IsOver g old new world.now turn.event found × Knows g old self.old
-            × (arrived.now ≡ arrived_between g old new) }
+            × (home ≡ given_to g new turn.event) × (arrived.now ≡ arrived_between g old new) }
         ensures happened { IfOk result (λ happened. (g : Input) (old new : Log)
             → IsOver g old new world.now turn.event found → IsTurn g old new turn
-            → Knows g old self.old → arrived.now ≡ arrived_between g old new
-            → happened ≡ happened_at g old new) }
+            → Knows g old self.old → home ≡ given_to g new turn.event
+            → arrived.now ≡ arrived_between g old new → happened ≡ happened_at g old new) }
         ensures kept { OnOk result ((g : Input) (old new : Log)
             → IsOver g old new world.now turn.event found → Knows g old self.old
             → arrived.now ≡ arrived_between g old new → Knows g new self.new) }
@@ -204,9 +224,9 @@ impl Watch {
         self.dones.note(arrived)?;
         let busy = busy(
             self.alloc,
-            world,
             &turn.event,
             &found,
+            home,
             arrived,
             self.sites.as_slice(),
         )?;

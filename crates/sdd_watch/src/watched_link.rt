@@ -1,21 +1,15 @@
 //! Links, as they stood when an event was over.
-ghost use Rattle.std.specs.Prelude.{◌≡◌, ◌==◌, ◌&&◌, ◌||◌, ◌++◌, ◌∷◌, [], cond, length, map, not, IfOk, OnOk};
-ghost use Rattle.std.specs.List.{cons_option};
-ghost use Rattle.sdd_obligations.specs.All.{Input, IsLinkOf, IsSiteOf, Log, Site as Place, sent};
+ghost use Rattle.std.specs.Prelude.{◌≡◌, ◌++◌, ◌∷◌, [], cond, length, IfOk, OnOk};
+ghost use Rattle.sdd_obligations.specs.All.{Input, IsLinkOf, Log, Site as Place};
 ghost use Rattle.sdd_inside.specs.Differences.{is_of_link, takes_one};
 ghost use Rattle.sdd_watch.specs.Awaiting.{behind};
-ghost use Rattle.sdd_run.specs.world.Represents.{Calm};
-ghost use Rattle.sdd_watch.specs.Looking.{AreSeen, advanced, arrived_with, seen_with};
-ghost use Rattle.sdd_watch.specs.Reaching.{is_touched, may_act, reach_of};
-ghost use Rattle.sdd_watch.specs.Watching.{IsOver, all_sites, arrived, changed_links, is_still_link, is_taken, left_of, link_after, link_before, links_from, seen_between, watched_link, watched_links};
+ghost use Rattle.sdd_watch.specs.Looking.{advanced, arrived_with, seen_with};
+ghost use Rattle.sdd_watch.specs.Watching.{IsOver, is_taken, left_of, seen_between, watched_link};
 
-use crate::at_site::AtSite;
-use crate::both::Both;
 use crate::places::is_same;
-use crate::reach::{Reach, is_touched, may_act, may_change_from, reach_of};
 use crate::waiting::{Purpose, Waiting};
 use sdd_inside::{Found, LinkMoment};
-use sdd_obligations::{Event, Listed, Msg, NoMemory, Packet, Packets, Site};
+use sdd_obligations::{Event, Listed, Msg, NoMemory, Packets, Site};
 use sdd_run::World;
 use std::alloc::Global;
 
@@ -36,14 +30,6 @@ pub(crate) struct LinkSeen {
     pub(crate) arrived: Option<Arrived>,
 }
 
-/// What happened on links.
-#[derive(Drop)]
-pub(crate) struct OnLinks {
-    pub(crate) moments: Both<LinkMoment>,
-    /// Of each link on which messages were handed over.
-    pub(crate) arrived: Vec<Arrived>,
-}
-
 /// A link, as it stood when the last event was over.
 #[derive(Drop)]
 pub(crate) struct WatchedLink {
@@ -52,7 +38,7 @@ pub(crate) struct WatchedLink {
     /// How many packets were in flight.
     flying: usize,
     /// How many messages were put on it.
-    sent: u32,
+    pub(crate) sent: u32,
     /// How many of them were handed over.
     handed: u32,
     /// The messages that weren't.
@@ -170,7 +156,7 @@ impl WatchedLink {
     }
 
     /// Looks at the link once an event is carried out.
-    fn look(
+    pub(crate) fn look(
         &mut self,
         alloc: Global,
         world: &World<'_>,
@@ -197,207 +183,4 @@ impl WatchedLink {
         let seen = self.advance(alloc, left, news, sent, handed)?;
         Ok(seen)
     }
-}
-
-/// Adds the moments of a link, where something is reported of it.
-fn add_changed(
-    moments: &mut Both<LinkMoment>,
-    before: LinkMoment,
-    after: LinkMoment,
-) -> Result<(), NoMemory>
-    ensures before { OnOk result (moments.new.before.items
-        ≡ moments.old.before.items ++ cond (not (is_still_link before after)) (before ∷ []) []) }
-    ensures after { OnOk result (moments.new.after.items
-        ≡ moments.old.after.items ++ cond (not (is_still_link before after)) (after ∷ []) []) }
-{
-    if is_still_link(&before, &after) {
-        return Ok(());
-    }
-    moments.add(before, after)
-}
-
-/// Whether no packet was put and no message handed over.
-fn is_still_link(before: &LinkMoment, after: &LinkMoment) -> bool
-    ensures { result ≡ is_still_link before.now after.now }
-{
-    match after.flight.as_slice() {
-        [] => before.handed == after.handed,
-        _ => false,
-    }
-}
-
-impl OnLinks {
-    /// Adds what was seen of a link.
-    fn add(&mut self, seen: LinkSeen) -> Result<(), NoMemory>
-        ensures before { OnOk result (self.new.moments.before.items
-            ≡ self.old.moments.before.items
-            ++ cond (not (is_still_link seen.before seen.after)) (seen.before ∷ []) []) }
-        ensures after { OnOk result (self.new.moments.after.items
-            ≡ self.old.moments.after.items
-            ++ cond (not (is_still_link seen.before seen.after)) (seen.after ∷ []) []) }
-        ensures arrived { OnOk result (self.new.arrived.items
-            ≡ self.old.arrived.items ++ cons_option seen.arrived []) }
-    {
-        let LinkSeen {
-            before,
-            after,
-            arrived,
-        } = seen;
-        add_changed(&mut self.moments, before, after)?;
-        match arrived {
-            Some(one) => {
-                self.arrived.push(one)?;
-                Ok(())
-            }
-            None => Ok(()),
-        }
-    }
-}
-
-/// Whether a link may have changed.
-fn may_change(world: &World<'_>, reach: Reach, link: &WatchedLink) -> bool
-    requires { (g : Input) × (log : Log) × Calm world.now g log
-        × IsLinkOf g link.now.from link.now.to }
-    ensures { (g : Input) (log : Log) → Calm world.now g log → IsLinkOf g link.now.from link.now.to
-        → result ≡ (is_touched reach link.now.from link.now.to
-        || may_act reach link.now.from
-        && not (length (sent link.now.from link.now.to log) == link.now.sent)) }
-{
-    is_touched(reach, link.from, link.to)
-        || may_act(reach, link.from) && world.mail().count_sent(link.from, link.to) != link.sent
-}
-
-/// Looks at a link where it may have changed.
-fn look_at_link(
-    alloc: Global,
-    world: &World<'_>,
-    event: &Event,
-    found: &Found,
-    reach: Reach,
-    link: &mut WatchedLink,
-    on_links: &mut OnLinks,
-) -> Result<(), NoMemory>
-    requires { (g : Input) × (old : Log) × (new : Log)
-        × IsOver g old new world.now event.now found.now × IsLinkOf g link.old.from link.old.to }
-    ensures kept { OnOk result ((g : Input) (old new : Log)
-        → IsOver g old new world.now event.now found.now → reach ≡ reach_of g new event.now found.now
-        → (l : Place × Place) → IsLinkOf g l.0 l.1 → link.old ≡ watched_link old l
-        → link.new ≡ watched_link new l) }
-    ensures seen { OnOk result ((g : Input) (old new : Log)
-        → IsOver g old new world.now event.now found.now → reach ≡ reach_of g new event.now found.now
-        → (l : Place × Place) → IsLinkOf g l.0 l.1 → link.old ≡ watched_link old l
-        → AreSeen old new (l ∷ []) on_links.old on_links.new) }
-{
-    if !may_change(world, reach, link) {
-        return Ok(());
-    }
-    let seen = link.look(alloc, world, event, found)?;
-    on_links.add(seen)?;
-    Ok(())
-}
-
-/// Looks at the links from a site.
-fn look_at_links_from(
-    alloc: Global,
-    world: &World<'_>,
-    event: &Event,
-    found: &Found,
-    reach: Reach,
-    links: &mut [WatchedLink],
-    on_links: &mut OnLinks,
-) -> Result<(), NoMemory>
-    requires { (g : Input) × (old : Log) × (new : Log) × (a : Place)
-        × IsOver g old new world.now event.now found.now
-        × (reach ≡ reach_of g new event.now found.now) × IsSiteOf g a
-        × (links.old ≡ map (watched_link old) (links_from g a)) }
-    ensures kept { OnOk result ((g : Input) (old new : Log) (a : Place)
-        → IsOver g old new world.now event.now found.now → reach ≡ reach_of g new event.now found.now
-        → IsSiteOf g a → links.old ≡ map (watched_link old) (links_from g a)
-        → links.new ≡ map (watched_link new) (links_from g a)) }
-    ensures seen { OnOk result ((g : Input) (old new : Log) (a : Place)
-        → IsOver g old new world.now event.now found.now → reach ≡ reach_of g new event.now found.now
-        → IsSiteOf g a → links.old ≡ map (watched_link old) (links_from g a)
-        → AreSeen old new (links_from g a) on_links.old on_links.new) }
-{
-    for link in links.iter_mut() {
-        look_at_link(alloc, world, event, found, reach, link, on_links)?;
-    }
-    Ok(())
-}
-
-/// Looks at the links from a site where one of them may have changed.
-fn look_at_site(
-    alloc: Global,
-    world: &World<'_>,
-    event: &Event,
-    found: &Found,
-    reach: Reach,
-    links: &mut AtSite<WatchedLink>,
-    on_links: &mut OnLinks,
-) -> Result<(), NoMemory>
-    requires { (g : Input) × (old : Log) × (new : Log) × (a : Place)
-        × IsOver g old new world.now event.now found.now
-        × (reach ≡ reach_of g new event.now found.now) × IsSiteOf g a
-        × (links.old ≡ watched_links g old a) }
-    ensures kept { OnOk result ((g : Input) (old new : Log) (a : Place)
-        → IsOver g old new world.now event.now found.now → reach ≡ reach_of g new event.now found.now
-        → IsSiteOf g a → links.old ≡ watched_links g old a → links.new ≡ watched_links g new a) }
-    ensures seen { OnOk result ((g : Input) (old new : Log) (a : Place)
-        → IsOver g old new world.now event.now found.now → reach ≡ reach_of g new event.now found.now
-        → IsSiteOf g a → links.old ≡ watched_links g old a
-        → AreSeen old new (links_from g a) on_links.old on_links.new) }
-{
-    if !may_change_from(reach, links.at) {
-        return Ok(());
-    }
-    look_at_links_from(
-        alloc,
-        world,
-        event,
-        found,
-        reach,
-        &mut links.parts,
-        on_links,
-    )?;
-    Ok(())
-}
-
-/// Looks at all links once an event is carried out. The moments are of those of which something is
-/// reported.
-pub(crate) fn look_at_links(
-    alloc: Global,
-    world: &World<'_>,
-    event: &Event,
-    found: &Found,
-    links: &mut [AtSite<WatchedLink>],
-) -> Result<OnLinks, NoMemory>
-    requires { (g : Input) × (old : Log) × (new : Log)
-        × IsOver g old new world.now event.now found.now
-        × (links.old ≡ map (watched_links g old) (all_sites g)) }
-    ensures before { IfOk result (λ seen. (g : Input) (old new : Log)
-        → IsOver g old new world.now event.now found.now
-        → links.old ≡ map (watched_links g old) (all_sites g)
-        → seen.moments.before.items ≡ map (link_before old) (changed_links g old new)) }
-    ensures after { IfOk result (λ seen. (g : Input) (old new : Log)
-        → IsOver g old new world.now event.now found.now
-        → links.old ≡ map (watched_links g old) (all_sites g)
-        → seen.moments.after.items ≡ map (link_after old new) (changed_links g old new)) }
-    ensures arrived { IfOk result (λ seen. (g : Input) (old new : Log)
-        → IsOver g old new world.now event.now found.now
-        → links.old ≡ map (watched_links g old) (all_sites g)
-        → seen.arrived.items ≡ arrived g old new) }
-    ensures kept { OnOk result ((g : Input) (old new : Log)
-        → IsOver g old new world.now event.now found.now
-        → links.old ≡ map (watched_links g old) (all_sites g)
-        → links.new ≡ map (watched_links g new) (all_sites g)) }
-{
-    let reach = reach_of(world, event, found);
-    let mut on_links = OnLinks {
-        moments: Both::new(alloc),
-        arrived: Vec::new(alloc),
-    };
-    for at in links.iter_mut() {
-        look_at_site(alloc, world, event, found, reach, at, &mut on_links)?;
-    }
-    Ok(on_links)
 }

@@ -1,7 +1,8 @@
 //! Pipes of data modules, as they stood when an event was over.
-ghost use Rattle.std.specs.Prelude.{◌≡◌, ◌==◌, ◌&&◌, ◌≤◌, ◌++◌, ◌+◌, ◌-◌, ◌∷◌, [], ℕ, cond, filter_map, find, length, map, not, IfOk, OnOk};
+ghost use Rattle.std.specs.Prelude.{◌≡◌, ◌==◌, ◌&&◌, ◌≤◌, ◌++◌, ◌+◌, ◌-◌, ◌∷◌, [], ℕ, cond, false, filter_map, find, length, map, not, IfOk, OnOk};
+ghost use Rattle.std.specs.List.{list_any};
 ghost use Rattle.std.specs.Option.{option_copied};
-ghost use Rattle.sdd_obligations.specs.All.{D, Input, IsSiteOf, Log, dm_no, numbers_to, time_at};
+ghost use Rattle.sdd_obligations.specs.All.{D, Input, IsSiteOf, Log, dm_no, numbers_to, same_site, time_at};
 ghost use Rattle.sdd_obligations.specs.base.Words.{is_empty};
 ghost use Rattle.sdd_obligations.specs.dm.Due.{or_zero};
 ghost use Rattle.sdd_obligations.specs.pipe.Digest as digest;
@@ -10,11 +11,13 @@ ghost use Rattle.sdd_run.specs.world.Represents.{Calm};
 ghost use Rattle.sdd_watch.specs.Awaiting.{number_for};
 ghost use Rattle.sdd_watch.specs.Looking.{ArePipesSeen, messages_in, numbers_for};
 ghost use Rattle.sdd_watch.specs.Moments.{pipes_at_module, source};
+ghost use Rattle.sdd_watch.specs.Reaching.{is_to, reach_between};
 ghost use Rattle.sdd_watch.specs.Watching.{IsBetween, arrived as all_arrived, changed_pipes, is_changed_pipe, is_on, is_still_pipe, pipe_after, pipe_before, watched_pipe, watched_pipes};
 
 use crate::at_site::AtSite;
 use crate::both::Both;
 use crate::places::is_same;
+use crate::reach::{Reach, actor};
 use crate::taking_part::is_reached;
 use crate::waiting::Purpose;
 use crate::watched_link::Arrived;
@@ -136,13 +139,21 @@ fn is_quiet(before: usize, came: &[u32], left: usize) -> bool
     came.is_empty() && before == left
 }
 
+/// Whether a message was handed over that comes from a site.
+fn comes_from(arrived: &[Arrived], at: Site) -> bool
+    ensures { result ≡ list_any (λ one. same_site one.from at) arrived.now }
+{
+    arrived.iter().any(|one| is_same(one.from, at))
+}
+
 impl WatchedPipe {
-    /// Whether all messages in the pipe were processed, and none was handed over on its link.
+    /// Whether all messages in the pipe were processed, and none was handed over that comes from its
+    /// source.
     fn is_idle(&self, arrived: &[Arrived]) -> bool
         ensures { result ≡ (self.now.unprocessed == 0
-            && is_empty (messages_in (find (is_on self.now.source (D self.now.dm)) arrived.now))) }
+            && not (list_any (λ one. same_site one.from self.now.source) arrived.now)) }
     {
-        self.unprocessed == 0 && messages_on(arrived, self.source, Site::D(self.dm)).is_empty()
+        self.unprocessed == 0 && !comes_from(arrived, self.source)
     }
 
     /// Looks at the pipe once an event is carried out, where these messages were handed over.
@@ -340,32 +351,45 @@ fn look_at_module(
     Ok(())
 }
 
-/// Looks at all pipes once an event is carried out, where these messages were handed over. The
-/// moments are of those of which something is reported.
+/// The place of a data module among all, counted from 0, where the site is one; else one past all.
+fn place_among_dms(at: Option<Site>) -> usize
+    ensures { (d : ℕ) → 1 ≤ d → (d ≡ result + 1 → ⊥) → is_to at (D (dm_no d)) ≡ false }
+{
+    match at {
+        Some(Site::D(dm)) => dm.0.saturating_sub(1) as usize,
+        _ => usize::MAX,
+    }
+}
+
+/// Looks at the pipes of the data module that may have acted, where these messages were handed over.
+/// The moments are of the pipes of which something is reported.
 pub(crate) fn look_at_pipes(
     alloc: Global,
     world: &World<'_>,
+    reach: Reach,
     arrived: &[Arrived],
     pipes: &mut [AtSite<WatchedPipe>],
 ) -> Result<Both<PipeMoment>, NoMemory>
     requires { (g : Input) × (old : Log) × (new : Log) × Calm world.now g new
         × (pipes.old ≡ map (watched_pipes g old) (numbers_to g.catalogue.dms)) }
     ensures before { IfOk result (λ parts. (g : Input) (old new : Log) → Calm world.now g new
-        → IsBetween g old new → arrived.now ≡ all_arrived g old new
+        → IsBetween g old new → reach ≡ reach_between g old new → arrived.now ≡ all_arrived g old new
         → pipes.old ≡ map (watched_pipes g old) (numbers_to g.catalogue.dms)
         → parts.before.items ≡ map (pipe_before g old new) (changed_pipes g old new)) }
     ensures after { IfOk result (λ parts. (g : Input) (old new : Log) → Calm world.now g new
-        → IsBetween g old new → arrived.now ≡ all_arrived g old new
+        → IsBetween g old new → reach ≡ reach_between g old new → arrived.now ≡ all_arrived g old new
         → pipes.old ≡ map (watched_pipes g old) (numbers_to g.catalogue.dms)
         → parts.after.items ≡ map (pipe_after g old new) (changed_pipes g old new)) }
     ensures kept { OnOk result ((g : Input) (old new : Log) → Calm world.now g new
-        → IsBetween g old new → arrived.now ≡ all_arrived g old new
+        → IsBetween g old new → reach ≡ reach_between g old new → arrived.now ≡ all_arrived g old new
         → pipes.old ≡ map (watched_pipes g old) (numbers_to g.catalogue.dms)
         → pipes.new ≡ map (watched_pipes g new) (numbers_to g.catalogue.dms)) }
 {
     let mut parts = Both::new(alloc);
-    for at in pipes.iter_mut() {
-        look_at_module(alloc, world, arrived, at, &mut parts)?;
+    let place = place_among_dms(actor(reach));
+    if place >= pipes.len() {
+        return Ok(parts);
     }
+    look_at_module(alloc, world, arrived, &mut pipes[place], &mut parts)?;
     Ok(parts)
 }

@@ -1,4 +1,4 @@
-use Rattle.sdd_watch.proofs.All.{Catalogue, FitsTxn, Some, ap, fits_in_era, no_txn, nth_era, redeclares, refl, site_of, subst, sym, txn_read, ◌∙◌}
+use Rattle.sdd_watch.proofs.All.{Catalogue, FitsTxn, ap, fits_in_era, no_txn, nth_era, redeclares, refl, site_of, subst, sym, txn_read, ◌∙◌}
 use Rattle.sdd_watch.proofs.taking_part.home_of.Goals as goal
 
 pub home-requires : goal.home-requires

@@ -1,4 +1,4 @@
-use Rattle.sdd_watch.proofs.All.{U, ap, links_from, map, watched_link, [], ◌∙◌}
+use Rattle.sdd_watch.proofs.All.{U}
 use Rattle.sdd_watch.proofs.FirstLinks.{all_links_begun, link_begun}
 use Rattle.sdd_watch.proofs.watch.first_links_from.Goals as goal
 

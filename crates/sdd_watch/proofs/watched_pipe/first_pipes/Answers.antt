@@ -1,5 +1,5 @@
 -- One data module more, and all of them.
-use Rattle.sdd_watch.proofs.All.{Catalogue, ap, arith, refl, ◌≡◌}
+use Rattle.sdd_watch.proofs.All.{Catalogue, ap, arith, ◌≡◌}
 use Rattle.sdd_watch.proofs.PipesBegun.{module_more, modules_done}
 use Rattle.sdd_watch.proofs.watched_pipe.first_pipes.Goals as goal
 

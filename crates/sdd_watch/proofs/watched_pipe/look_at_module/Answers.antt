@@ -1,4 +1,4 @@
-use Rattle.sdd_watch.proofs.All.{Arrived, Calm, D, Input, IsBetween, List, Log, Site, WatchedPipe, ap, arith, arrived, dm_no, false, is_reached, list_any, pipes_at_module, same_site, sym, watched_pipe, watched_pipes, ℕ, ◌∙◌, ◌≡◌}
+use Rattle.sdd_watch.proofs.All.{Arrived, D, Input, List, Log, Site, WatchedPipe, ap, arith, arrived, dm_no, false, is_reached, list_any, pipes_at_module, same_site, sym, watched_pipe, watched_pipes, ℕ, ◌∙◌, ◌≡◌}
 use Rattle.sdd_watch.proofs.KeptBeside.{written_back}
 use Rattle.sdd_watch.proofs.PipesKept.{module_kept, none_seen}
 use Rattle.sdd_watch.proofs.TakingPart.{reached_is}

@@ -1,4 +1,4 @@
-use Rattle.sdd_watch.proofs.All.{Catalogue, [], ap, map, refl, sites, watched_links, ◌∙◌}
+use Rattle.sdd_watch.proofs.All.{Catalogue, [], ap, refl, sites, ◌∙◌}
 use Rattle.sdd_watch.proofs.watch.Watch.new.Goals as goal
 
 pub returns : goal.returns

@@ -8,7 +8,7 @@ tick-requires-clause-lives c =
     is_live r.0 c.index_mut-module.result.now r.1 r.2
     (read_at (LivesT r.0) c.args.self.now.tms.items (c.args.tm.0 - 1) c.index_mut-module.result.now r.1 r.2 c.index_mut-module.ensures.value r.3.1)
 
-pub tick-requires-clause-queues : goal.tick-requires-clause-represents
+pub tick-requires-clause-queues : goal.tick-requires-clause-queues
 tick-requires-clause-queues c =
     let r = c.requires in (
       r.1,

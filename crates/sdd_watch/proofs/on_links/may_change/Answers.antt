@@ -1,5 +1,5 @@
 use Rattle.sdd_watch.proofs.All.{calls_of}
-use Rattle.sdd_watch.proofs.watched_link.may_change.Goals as goal
+use Rattle.sdd_watch.proofs.on_links.may_change.Goals as goal
 
 pub count_sent-requires : goal.count_sent-requires
 count_sent-requires c =
