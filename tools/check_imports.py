@@ -7,11 +7,15 @@ A file of specs/ or proofs/, and a `ghost use` of src/, names what it takes by i
 prover says where a name is missing, but only when it comes to that crate, which may be an hour later. Here each line is followed
 through what libraries pass on (`pub use .. as ..` in Lib.antt), and each name is looked for in the file: as a definition, a
 constructor, a field, or a name that is passed on. What the prover makes itself (goals, declared types) is left out.
+
+Said too is where a file names a crate that its own doesn't name in crates.txt, where files of a crate take names from each
+other in a circle, and where an answer to a goal has another name than the goal, as after a clause was renamed.
 """
 import os
 import re
 
 import sdd_path  # noqa: F401
+from crate_paths import read_crates
 from sdd.command import judge, parser, start
 from sdd.programs import ROOT
 
@@ -21,6 +25,8 @@ PASSES = re.compile(r"^pub use [\w.]+\.\{([^}]*)\}", re.M)
 WHOLE = re.compile(r"^pub use Rattle\.([\w.]+) as (\w+)", re.M)
 DEFINES = re.compile(r"^\s*(?:(?:pub|abbrev|unfoldable|data|record) )*([^\s:({]+)(?= *[:({])", re.M)
 MADE = {"declared", "Goals", "Given", "Steps"}
+NAMED = re.compile(r"\bRattle\.(sdd_\w+)\.(?:specs|proofs)\b")
+ANSWERS = re.compile(r"^pub (\S+) : goal\.(\S+)$", re.M)
 
 
 def text_of(path):
@@ -82,11 +88,56 @@ def missing(homes, file):
                 yield "%s: %s has no %s" % (os.path.relpath(file, ROOT), path, name)
 
 
+def crate_of(file):
+    return os.path.relpath(file, CRATES).split(os.sep)[0]
+
+
+def unnamed(named, file):
+    """The crates that a file names and its own crate doesn't."""
+    own = crate_of(file)
+    for other in sorted({*NAMED.findall(text_of(file))} - {own, *named.get(own, ())}):
+        yield "%s: crates.txt has no %s in the line of %s" % (os.path.relpath(file, ROOT), other, own)
+
+
+def misnamed(file):
+    """The answers whose goals have other names."""
+    for name, goal in ANSWERS.findall(text_of(file)):
+        if name != goal:
+            yield "%s: %s answers the goal %s" % (os.path.relpath(file, ROOT), name, goal)
+
+
+def circles(homes, all_files):
+    """Of each circle of files of a crate that take names from each other, the file at which it closes."""
+    taken = {file: {homes.file_of(path) for path, _ in TAKES.findall(text_of(file)) if path.split(".")[0] == crate_of(file)}
+             for file in all_files if file.endswith(".antt")}
+    state = {}
+    for first in taken:
+        walk = [(first, iter(sorted(taken[first])))] if first not in state else []
+        state.setdefault(first, "open")
+        while walk:
+            file, rest = walk[-1]
+            following = next((it for it in rest if it in taken and state.get(it) != "over"), None)
+            if following is None:
+                state[file] = "over"
+                walk.pop()
+            elif state.get(following) == "open":
+                yield "%s: takes names from %s, which takes names from it" % tuple(os.path.relpath(it, ROOT) for it in (file, following))
+            else:
+                state[following] = "open"
+                walk.append((following, iter(sorted(taken[following]))))
+
+
+def all_wrong():
+    """All that is wrong, a line each."""
+    homes, all_files = Homes(), list(files())
+    named = read_crates(os.path.join(ROOT, "crates.txt"))
+    found = [it for file in all_files for it in [*missing(homes, file), *unnamed(named, file), *misnamed(file)]]
+    return [*found, *circles(homes, all_files)]
+
+
 def main():
     parser(__doc__).parse_args()
-    homes = Homes()
-    wrong = [it for file in files() for it in missing(homes, file)]
-    return judge("imports", wrong, "names are not where they are taken from", "each name stands where it is taken from")
+    return judge("imports", all_wrong(), "names are wrong", "each name stands where it is taken from")
 
 
 if __name__ == "__main__":
