@@ -22,7 +22,8 @@ fn put_number(out: &mut Vec<u8>, number: u32) -> Result<(), NoMemory>
     put_decimal(out, u64::from(number))
 }
 
-/// Puts the word of a module after a space: in one piece, since no number has more than two digits.
+/// Puts the word of a module after a space: in one piece where its number has at most two digits, as
+/// all modules of a catalogue have.
 #[tactic(auto, using(crate::proofs::Digits::one, crate::proofs::Digits::two))]
 #[inline(always)]
 fn put_module(out: &mut Vec<u8>, letter: u8, number: u8) -> Result<(), NoMemory>

@@ -7,6 +7,7 @@ ghost use Rattle.sdd_inside.specs.Json.{is_verbatim};
 
 use sdd_script::{Catalogue, ClassNo, FragNo, Txn, TxnNo};
 
+/// The name of a transaction, by its number from 1; empty past the last.
 #[tactic(auto, using(crate::proofs::Verbatim::name_verbatim))]
 pub fn txn_name(txns: &[Txn], txn: TxnNo) -> &[u8]
     ensures value { result.now ≡ txn_name txns.now txn.0 }
@@ -42,6 +43,7 @@ pub fn class_word(catalogue: &Catalogue, class: ClassNo) -> &[u8]
     }
 }
 
+/// The name of a fragment, by its number from 1; empty past the last.
 #[tactic(auto, using(crate::proofs::Verbatim::name_verbatim))]
 pub fn fragment_name(catalogue: &Catalogue, frag: FragNo) -> &[u8]
     ensures value { result.now ≡ fragment_name catalogue.now frag.0 }

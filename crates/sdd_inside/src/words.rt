@@ -84,8 +84,8 @@ impl ToJson for TxnNo {
     }
 }
 
-/// Puts the word of a module, a letter and its number, as a string: in one piece, since no number has
-/// more than two digits.
+/// Puts the word of a module, a letter and its number, as a string: in one piece where the number has
+/// at most two digits, as all modules of a catalogue have.
 #[tactic(auto, using(crate::proofs::Digits::module_of_one, crate::proofs::Digits::module_of_two, crate::proofs::Digits::module_put))]
 #[inline(always)]
 fn put_module(out: &mut Vec<u8>, letter: u8, number: u8) -> Result<(), NoMemory>

@@ -113,7 +113,7 @@ fn text_with_tables<'a>(
 /// that has a number.
 ///
 /// Costs what its events cost, for each of them a look at the links and pipes of the sites that it
-/// concerns; for each submission and commit a look at all queues; and the text.
+/// concerns; for each submission and commit a look at the queues of the site that acts; and the text.
 ///
 /// # Errors
 ///
