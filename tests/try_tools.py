@@ -56,7 +56,7 @@ GOOD = [
     ["benchmark_joins.py", "--drawn", "2"] + P,
     ["measure_gate.py", "--log", "ROOM/log", "--into", "ROOM/gate", "--", "true"],
     ["write_log_examples.py", "--check"], ["proof_map.py", "--into", "ROOM/map", "--picture", "ROOM/map.svg"], ["proof_map.py", "--unused"],
-    ["layers.py", "--into", "ROOM/layers.svg"], ["crate_paths.py", "--most", "56000"], ["try_changes.py", "verify"],
+    ["layers.py", "--into", "ROOM/layers.svg"], ["crate_paths.py", "--most", "57000"], ["try_changes.py", "verify"],
     ["page", CAT, WORK, "--into", "ROOM/page.html"] + P, ["picture", REPORT, CAT, WORK, "--into", "ROOM/run.svg"] + P,
     ["graph-picture", "examples/ycsb/catalogue.toml", "--into", "ROOM/matrix.svg"] + P, ["check_inside.py", "0", "3"],
 ]
@@ -103,7 +103,7 @@ BAD = [
     ["try_cases.py"], ["try_cases.py", "--program", "/no/p"], ["make_site.py"], ["make_site.py", "/proc/x", "--program", "/no/p"],
     ["program.py"], ["program.py", "nonsense"], ["program.py", "check", "/no/a"],
     ["write_log_examples.py", "x"], ["crate_paths.py", "--crates", "/no/a"], ["crate_paths.py", "--top", "nocrate"],
-    ["try_changes.py", "nogroup"], ["try_changes.py", "--jobs", "x"],
+    ["try_changes.py", "nogroup"], ["try_changes.py", "--jobs", "x"], ["find_tactics.py"], ["find_tactics.py", "nocrate"],
 ]
 
 

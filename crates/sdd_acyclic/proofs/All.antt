@@ -25,9 +25,9 @@ pub use Rattle.sdd_graph.specs.Edges.{IsClassOf}
 pub use Rattle.sdd_graph.specs.Graph.{classes_of, conflict_graph, diagonal_edges, diagonals_between, diagonals_from, ends, fragments_of, horizontal_edges, horizontals_from, read_node, vertical_edges, write_node, write_sets_meet}
 pub use Rattle.sdd_graph.specs.declared.edge.Edge.{Edge}
 pub use Rattle.sdd_graph.specs.declared.edge.Edge.TheVariants.{Diagonal, Horizontal, Vertical}
-pub use Rattle.sdd_order.proofs.Members.{Contains-filter, Contains-filter_map, Contains-flat_map, Contains-map, Contains-range, passes_member, place_of}
-pub use Rattle.sdd_order.proofs.Paths.{path_as, path_join}
-pub use Rattle.sdd_order.specs.Paths.{IsOrderly, IsPath}
+pub use Rattle.sdd_links.proofs.Members.{Contains-filter, Contains-filter_map, Contains-flat_map, Contains-map, Contains-range, passes_member, place_of}
+pub use Rattle.sdd_links.proofs.Paths.{path_as, path_join}
+pub use Rattle.sdd_links.specs.Paths.{IsOrderly, IsPath}
 pub use Rattle.sdd_protocol.proofs.ConditionOn.{protocol_known}
 pub use Rattle.sdd_protocol.proofs.MadeTable.{is_table}
 pub use Rattle.sdd_protocol.proofs.Tables.{all_at, blocks_of, first_block-vertical, vertical_block-lists}

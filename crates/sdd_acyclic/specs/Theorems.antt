@@ -4,7 +4,7 @@ use Rattle.sdd_blocks.specs.Graph.{Step, IsSimpleCycle}
 use Rattle.sdd_blocks.specs.Blocks.{AreBlocks}
 use Rattle.sdd_graph.specs.Graph.{ends}
 use Rattle.sdd_graph.specs.declared.edge.Edge.{Edge}
-use Rattle.sdd_order.specs.Paths.{IsOrderly}
+use Rattle.sdd_links.specs.Paths.{IsOrderly}
 use Rattle.sdd_acyclic.specs.Graphs.{Covers, Waits}
 use Rattle.sdd_acyclic.specs.System.{System, Precedes, Facts}
 use Rattle.sdd_acyclic.specs.Undeclared.{HasBarriers, declared}

@@ -28,7 +28,7 @@ pub use Rattle.sdd_graph.specs.Edges.{IsClassOf, IsEdgeOf, NamesClasses}
 pub use Rattle.sdd_graph.specs.Graph.{classes_of}
 pub use Rattle.sdd_graph.specs.declared.edge.Edge.{Edge}
 pub use Rattle.sdd_graph.specs.declared.edge.Edge.TheVariants.{Diagonal, Horizontal, Vertical}
-pub use Rattle.sdd_order.proofs.Members.{Contains-range, member_passes, passes_member}
+pub use Rattle.sdd_links.proofs.Members.{Contains-range, member_passes, passes_member}
 pub use Rattle.sdd_protocol.specs.Protocols.{IsTable, is_between}
 pub use Rattle.sdd_protocol.specs.declared.entry.Entry.{Entry}
 pub use Rattle.sdd_protocol.specs.declared.protocol.Protocol.{Protocol}

@@ -4,7 +4,7 @@ use Rattle.sdd_acyclic.specs.Fits.{FitsSystem}
 use Rattle.sdd_acyclic.specs.System.{Precedes}
 use Rattle.sdd_acyclic.specs.Undeclared.{declared}
 use Rattle.sdd_catalog.specs.Catalogue.{Catalogue}
-use Rattle.sdd_order.specs.Paths.{IsOrderly}
+use Rattle.sdd_links.specs.Paths.{IsOrderly}
 use Rattle.sdd_snapshots.specs.Runs.{HasSessions, SnapshotRun, system_of}
 use Rattle.sdd_ask.specs.Robust.{IsRobustText}
 

@@ -16,8 +16,8 @@ pub use Rattle.sdd_obligations.proofs.logs.NewMarks.{lawful_permitted}
 pub use Rattle.sdd_obligations.proofs.net.Directions.{link_back, link_parts, link_turned, same_here, same_is}
 pub use Rattle.sdd_obligations.proofs.net.Rounds.{links_exist}
 pub use Rattle.sdd_obligations.proofs.net.Sound.{sound}
-pub use Rattle.sdd_obligations.proofs.serial_orders.Found.{in_committed}
-pub use Rattle.sdd_obligations.proofs.serial_orders.Places.{one_attempt, same_start}
+pub use Rattle.sdd_obligations.proofs.links.Found.{in_committed}
+pub use Rattle.sdd_obligations.proofs.links.Places.{one_attempt, same_start}
 pub use Rattle.sdd_obligations.specs.All.{Ack, Act, Answer, Call, Catalogue, Change, ClassNo, Commit, Committed, Cond, D, Deliver, Delivers, Did, DmNo, Does, Entry, Eras, Event, Hand, HasCommit, History, Input, IsAgain, IsAttempt, IsCommitted, IsConditionOf, IsLawful, IsPermitted, IsRecordAt, IsSoundCatalogue, IsSubmitted, KeepsRejections, KeepsStarts, Link, Log, Lose, Mark, Message, Msg, Notes, Packet, Pipe, Read, Rec, Records, Redeclare, Redeclares, Reject, Repeat, Reply, Resend, Resends, Round, Setting, Settle, Site, Start, StartedBefore, Submitted, T, Ts, Txn, TxnNo, U, Use, after_mark, all_links, are_linked, arrives, ascending, calls_of, class_for, class_no, commit_act, committed, contains, deliver, delivered, dm_no, event_at, fragments_in, head, history, home, home_of, in_flight, is_empty, is_link, is_processing, is_quiet_link, is_site, left, link, links, local_of, mark_from, mark_of, next, next_mark, number_of, on_link, p2_time, pipe, pipe_at, puts, quiet, read_at, resend, resends_now, round, same_site, sends_of_act, setting_of, sites, starts_before, time_at, turned, txn_no, uses_of, with_flight}
 pub use Rattle.sdd_obligations.specs.invariants.All.{from_event, tail_of}
 pub use Rattle.sdd_obligations.specs.invariants.Seen.{class_puts}

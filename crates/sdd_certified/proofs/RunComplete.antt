@@ -12,7 +12,7 @@ use Rattle.sdd_certify.proofs.verifying.OrderWords.{HaveNoSpace, is_order_line_a
 use Rattle.sdd_obligations.specs.All.{Catalogue, Commit, Committed, History, IsCommitted, IsRecordAt, Rec, Txn, TxnNo, history, txn_no}
 use Rattle.sdd_obligations.specs.catalog.Naming.{AreNamed}
 use Rattle.sdd_obligations.specs.history.declared.record.Rec.TheVariants as records
-use Rattle.sdd_obligations.specs.serial_orders.Attempts.{HasCommit}
+use Rattle.sdd_obligations.specs.links.Attempts.{HasCommit}
 use Rattle.sdd_verified.specs.run.class_lists.InForce.{whole_in}
 use Rattle.sdd_verified.specs.run.Reports.{report_of}
 use Rattle.sdd_verified.specs.run.Runs.{IsReportOn, input_of, order_of, plain_run}

@@ -25,7 +25,8 @@ pub use Rattle.sdd_verify.proofs.RepliesPassed.{reply_whole}
 pub use Rattle.sdd_verify.proofs.Submissions.{lent_fit, rows_fit, some_is}
 pub use Rattle.sdd_verify.specs.Classes.{classes_submitted}
 pub use Rattle.sdd_verify.specs.Lines.{Numbered, ends_replies, is_order_line, lines_of, numbered_lines, order_line_in, passed, tells_reply}
-pub use Rattle.sdd_verify.specs.Orders.{is_in_turn, names_on, order_on, words_of}
+pub use Rattle.sdd_verify.specs.Orders.{names_on, order_on, words_of}
+pub use Rattle.sdd_turns.specs.Turns.{is_in_turn}
 pub use Rattle.sdd_verify.specs.Replies.{replies, replies_on, serial_replies}
 pub use Rattle.sdd_verify.specs.Submitted.{named, submitted, submitted_by, texts_of, txn_of}
 pub use Rattle.sdd_verify.specs.Verdict.{judged, verdict, verdict_of}

@@ -1,5 +1,5 @@
 ghost use Rattle.std.specs.Prelude.{◌≡◌, ◌<◌, ◌^◌, ◌==◌, ◌&&◌, ◌++◌, List, filter_map, length, map, IfOk, OnOk, option_map, not};
-ghost use Rattle.sdd_module.specs.All.{Msg, Site, head_of, is_empty, with_values};
+ghost use Rattle.sdd_module.specs.All.{Msg, Site, head_of, is_empty};
 ghost use Rattle.sdd_rules.specs.All.{after_hand, after_send, answered, begins, fetches, goes_on, is_over, module_read, phase_ends};
 ghost use Rattle.sdd_rules.specs.attempt.Exchange.{reduces, ships};
 ghost use Rattle.sdd_exchange.specs.Outbox.{numbered};
@@ -13,8 +13,9 @@ use crate::modules::{DmNos, Modules};
 use crate::outbox::Outbox;
 use crate::phase::{Phase, Reduction, next_reduction};
 use crate::queries::{Asking, askings};
-use sdd_module::{ClassNo, DmNo, Msg, NoMemory, Parcel, Row, Ts, Txn, Value, ValueList};
+use sdd_module::{ClassNo, DmNo, Msg, NoMemory, Row, Ts, Txn, Value};
 use sdd_semijoin::Step;
+use sdd_union::{list_values, unite};
 use std::alloc::Global;
 use std::collections::{BTreeSet, VecDeque};
 use std::marker::Model;
@@ -340,25 +341,4 @@ fn put_behind(found: &mut Vec<(u32, Row)>, mut rows: Vec<(u32, Row)>) -> Result<
     }
     found.append(&mut rows)?;
     Ok(())
-}
-
-/// Puts values into the union.
-fn unite(union: &mut BTreeSet<Value>, values: ValueList) -> Result<(), NoMemory>
-    ensures { OnOk result (union.new.keys ≡ with_values union.old.keys values) }
-{
-    for value in values.into_vec() {
-        union.insert(value)?;
-    }
-    Ok(())
-}
-
-/// The values of a set, ascending.
-fn list_values(alloc: Global, values: &BTreeSet<Value>) -> Result<ValueList, NoMemory>
-    ensures { IfOk result (λ list. list ≡ values.now.keys) }
-{
-    let mut list = Vec::with_capacity(alloc, values.len())?;
-    for value in values {
-        list.push(value.copy()?)?;
-    }
-    Ok(ValueList::from_vec(list))
 }

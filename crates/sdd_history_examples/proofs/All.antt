@@ -16,11 +16,11 @@ pub use Rattle.sdd_laws.proofs.Precedes.{changes_member}
 pub use Rattle.sdd_laws.proofs.base.Membership.{Contains-cases, Contains-here, Contains-nil}
 pub use Rattle.sdd_laws.proofs.class_eras.EraSets.{era_of_itself}
 pub use Rattle.sdd_laws.proofs.class_eras.Lists.{at_member, each_passes}
+pub use Rattle.sdd_laws.proofs.links.Before.{is_answered, or_cases}
+pub use Rattle.sdd_laws.proofs.links.Found.{at_place, from_attempts, from_committed, in_attempts, in_committed}
+pub use Rattle.sdd_laws.proofs.links.Members.{Contains-filter_map, Contains-range, member_passes, passes_member}
+pub use Rattle.sdd_laws.proofs.links.Places.{commit_of}
 pub use Rattle.sdd_laws.proofs.protocol.Laws.{one_table}
-pub use Rattle.sdd_laws.proofs.serial_orders.Before.{is_answered, or_cases}
-pub use Rattle.sdd_laws.proofs.serial_orders.Found.{at_place, from_attempts, from_committed, in_attempts, in_committed}
-pub use Rattle.sdd_laws.proofs.serial_orders.Members.{Contains-filter_map, Contains-range, member_passes, passes_member}
-pub use Rattle.sdd_laws.proofs.serial_orders.Places.{commit_of}
 pub use Rattle.sdd_laws.specs.All.{Answer, AnsweredBefore, AppliedBefore, Apply, AreEras, AreFragments, Arrive, Asks, Attempt, Catalogue, Change, ChangeExists, Class, Commit, Committed, CommittedBefore, Cond, CondExists, DmNo, Entry, Eras, ExistsIn, FitTogether, FitsStart, FitsStatement, FitsTxn, FragNo, Ge, GoesTo, HasCommit, HasSets, History, IsAgain, IsAnswered, IsApplied, IsAttempt, IsBound, IsCommitted, IsConditionOf, IsEarlier, IsEraOf, IsOfCommit, IsOfEarlierEra, IsOfSubmit, IsRecordAt, IsSoundCatalogue, IsSubmitted, IsTable, IsWhollyAfter, IsWhollyBefore, KeepsAnswers, KeepsApplies, KeepsConditions, KeepsEras, KeepsRejections, KeepsStarts, KeepsUndeclared, Le, NamesOneOf, Nothing, Op, Pass, Rec, Reject, RelNo, Row, Rows, Start, StartedBefore, Stmt, Submit, Touches, TouchesOne, Ts, Txn, Use, UseExists, Wait, attempts, base_of, catalogue_at, class_at, class_for, class_no, committed, conditions_of, contains, dm_no, effect, eras_begun, event_at, frag_no, fragment_at, fragments_in, has_copy, high_keys, is_answer, is_applied, is_from_1_to, low_keys, misses_both, numbers_to, p2_time, placed, protocol_in, put, reads_at, reads_before, rel_no, row_of, starts_again, starts_before, time_at, txn_at, txn_no, waits_at_two, waits_for_other, with_classes}
 pub use Rattle.sdd_laws.specs.Deeds.Asks.{by_use}
 pub use Rattle.sdd_laws.specs.Deeds.GoesTo.{by_change, by_no_class}

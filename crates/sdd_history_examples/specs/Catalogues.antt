@@ -2,7 +2,7 @@
 use Rattle.std.specs.Prelude.{ℕ, ◌+◌, List, [], ◌∷◌, map}
 use Rattle.std.specs.List.{enumerate_from}
 use Rattle.sdd_laws.specs.All.{Catalogue, Class, Column, Eras, Fragment, Read, Relation, Text, dm_no, frag_no, tm_no, with_classes}
-use Rattle.sdd_laws.specs.serial_orders.Examples as examples
+use Rattle.sdd_laws.specs.links.Examples as examples
 
 -- relations, columns, fragments and classes are named a, b, c and so on
 

@@ -63,10 +63,10 @@ pub use Rattle.sdd_laws.proofs.class_eras.EraSets.{covered, era_of_itself}
 pub use Rattle.sdd_laws.proofs.class_eras.Lists.{first_passes}
 pub use Rattle.sdd_laws.proofs.copy.Order.{order_tells_nothing}
 pub use Rattle.sdd_laws.proofs.lang.Sets.{each_append as all_join, each_filtered as all_filtered, numbered as all_numbers}
-pub use Rattle.sdd_laws.proofs.serial_orders.Before.{answer_passes, is_answered}
-pub use Rattle.sdd_laws.proofs.serial_orders.Found.{from_committed, in_committed}
-pub use Rattle.sdd_laws.proofs.serial_orders.Members.{place_of as member_at}
-pub use Rattle.sdd_laws.proofs.serial_orders.Places.{commit_of, one_attempt, one_of_txn, same_start}
+pub use Rattle.sdd_laws.proofs.links.Before.{answer_passes, is_answered}
+pub use Rattle.sdd_laws.proofs.links.Found.{from_committed, in_committed}
+pub use Rattle.sdd_laws.proofs.links.Members.{place_of as member_at}
+pub use Rattle.sdd_laws.proofs.links.Places.{commit_of, one_attempt, one_of_txn, same_start}
 pub use Rattle.sdd_laws.specs.All.{AnsweredBefore, AppliedBefore, AreAllApplied, AreEras, AreFew, ArePlaced, Asks, Attempt, ChangeExists, ChangesOne, Committed, CommittedBefore, CondExists, Dated, DatesDiffer, Eras, ExistsIn, GoesTo, HasCommit, HasNoCycle, IsAgain, IsAnswered, IsAttempt, IsBound, IsClass, IsCommitted, IsConditionOf, IsEarlier, IsEraOf, IsFragment, IsFrom1To, IsModule, IsOfCommit, IsOfSubmit, IsOrderable, IsRecordAt, IsReplyOf, IsSerial, IsSubmitted, IsWhollyAfter, IsWhollyBefore, KeepsAnswers, KeepsApplies, KeepsConditions, KeepsEras, KeepsLaws, KeepsRejections, KeepsStarts, KeepsUndeclared, NamesOneOf, NumbersExist, Reject as Rejected, StartedBefore, Submit, Touches, TouchesOne, TxnsExist, UseExists, by_change, by_no_class, by_use, catalogue_at, changes, committed, conditions_of, contents, copy_at, event_at, is_answer, is_start_of, module_of, of_fragment, p2_time, reads, record_at, rows_left, run, starts_before}
 pub use Rattle.std.proofs.Common.{All, Bool, Contains, List, None, Option, Some, [], ap, append-nil, append_assoc, arith, cond, eq-eqb, eqb-true, false, filter, filter_map, flat_map, fold, if◌then◌else◌, inl, inr, is_some, length, length-append, map, nat_le, nat_lt, not, option_map, refl, slice_get, slice_index_or, subst, suc, sym, take, true, unwrap_or, zero, ℕ, ℤ, ◌%◌, ◌&&◌, ◌++◌, ◌+◌, ◌-◌, ◌<◌, ◌==◌, ◌||◌, ◌∙◌, ◌∷◌, ◌≡◌, ◌≢◌, ◌≤◌, ◌⊎◌}
 pub use Rattle.std.proofs.Math.Decide.{dec_le}

@@ -63,16 +63,17 @@ pub use Rattle.sdd_laws.specs.Values.{ArePlaced, AreWriters, IsPlaced, IsValue, 
 pub use Rattle.sdd_laws.specs.Values.IsValue.{untouched, written}
 pub use Rattle.sdd_laws.specs.declared.meeting.Meeting.{Meeting}
 pub use Rattle.sdd_laws.specs.declared.meeting.Meeting.TheVariants.{ReadWrite, WriteRead, Writes}
-pub use Rattle.sdd_order.proofs.Before.{answer_passes, any_from, apply_passes, comes_from, in_turn, is_answered, or_cases}
-pub use Rattle.sdd_order.proofs.Found.{from_committed, in_committed}
-pub use Rattle.sdd_order.proofs.Members.{Contains-from_filter_map, Contains-from_map, Contains-range, member_passes, passes_member}
-pub use Rattle.sdd_order.proofs.Places.{commit_of, one_of_txn, one_submitted, same_commit, same_start}
-pub use Rattle.sdd_order.specs.Attempts.{Attempt, Committed, IsAttempt, IsCommitted, changes, committed, p2_time, reads}
-pub use Rattle.sdd_order.specs.Numbers.{ChangeExists, ExistsIn, IsClass, IsFragment, IsModule, NumbersExist}
-pub use Rattle.sdd_order.specs.Orders.{IsOrderable, IsSerial}
-pub use Rattle.sdd_order.specs.Paths.{IsOrderly, IsPath}
-pub use Rattle.sdd_order.specs.Places.{IsRecordAt, comes_before, event_at}
-pub use Rattle.sdd_order.specs.Precedence.{HasNoCycle, Precedes, is_answer, is_apply, is_earlier, is_overwritten, is_read_by, misses, module_of, precedes, was_seen}
+pub use Rattle.sdd_links.proofs.Before.{answer_passes, any_from, apply_passes, comes_from, in_turn, is_answered, or_cases}
+pub use Rattle.sdd_links.proofs.Found.{from_committed, in_committed}
+pub use Rattle.sdd_links.proofs.Members.{Contains-from_filter_map, Contains-from_map, Contains-range, member_passes, passes_member}
+pub use Rattle.sdd_links.proofs.Places.{commit_of, one_of_txn, one_submitted, same_commit, same_start}
+pub use Rattle.sdd_links.specs.Attempts.{Attempt, Committed, IsAttempt, IsCommitted, changes, committed, p2_time, reads}
+pub use Rattle.sdd_links.specs.Numbers.{ChangeExists, ExistsIn, IsClass, IsFragment, IsModule, NumbersExist}
+pub use Rattle.sdd_links.specs.Orderable.{IsOrderable}
+pub use Rattle.sdd_links.specs.Paths.{IsOrderly, IsPath}
+pub use Rattle.sdd_links.specs.Places.{IsRecordAt, comes_before, event_at}
+pub use Rattle.sdd_links.specs.Precedence.{HasNoCycle, Precedes, is_answer, is_apply, is_earlier, is_overwritten, is_read_by, misses, module_of, precedes, was_seen}
+pub use Rattle.sdd_order.specs.Orders.{IsSerial}
 pub use Rattle.sdd_protocol.proofs.ConditionOn.{condition_time as asked_time}
 pub use Rattle.sdd_protocol.proofs.Tables.{all_at}
 pub use Rattle.sdd_protocol.specs.Conditions.{cond_of, condition_on, conditions, is_asked, undeclared_conditions}

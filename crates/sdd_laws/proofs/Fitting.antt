@@ -4,7 +4,7 @@ use Rattle.sdd_laws.proofs.Deeds.{Placed, deeds, are_starts}
 use Rattle.sdd_laws.proofs.CatalogueAt.{era_is}
 use Rattle.sdd_laws.proofs.Reading.{class_covers, read_at_event, reads_there}
 use Rattle.sdd_acyclic.specs.Fits.{FitsSystem}
-use Rattle.sdd_order.proofs.EachLink as numbers
+use Rattle.sdd_links.proofs.EachLink as numbers
 
 -- a number of a list is there when they ascend
 pub each_here : (xs zs : List ℕ) → ((n : ℕ) → contains xs n ≡ true → contains zs n ≡ true)

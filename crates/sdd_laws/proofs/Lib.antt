@@ -41,4 +41,5 @@ pub use Rattle.sdd_protocol.proofs as protocol
 pub use Rattle.sdd_lang.proofs as lang
 pub use Rattle.sdd_eras.proofs as class_eras
 pub use Rattle.sdd_copy.proofs as copy
+pub use Rattle.sdd_links.proofs as links
 pub use Rattle.sdd_order.proofs as serial_orders

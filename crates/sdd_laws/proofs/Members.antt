@@ -1,7 +1,7 @@
 -- Members of lists that are made of others.
 use Rattle.sdd_laws.proofs.All.{AllByRecursion, Bool, Contains, Contains-here, Contains-later, IsIn, List, Option, Some, [], at_in, filter, filter_map, flat_map, inl, inr, map, subst, sym, true, ◌∷◌, ◌≡◌}
 use Rattle.sdd_order.proofs.InOrder.{each}
-use Rattle.sdd_order.proofs.Members as order
+use Rattle.sdd_links.proofs.Members as order
 
 -- between the two forms of membership
 

@@ -1,7 +1,7 @@
 -- Rows with which two modules begin, and which agree on a fragment.
 use Rattle.std.specs.Prelude.{ℕ, ◌≡◌, List, [], ◌∷◌, refl}
 use Rattle.sdd_lang.specs.All.{Catalogue, RelNo, Row, database_of, rel_no, rows_in_fragment}
-use Rattle.sdd_order.specs.Examples.{crossing, row_of}
+use Rattle.sdd_links.specs.Examples.{crossing, row_of}
 
 -- the databases that they make have the same entries in the fragment
 abbrev pub AgreeOnFragment : Catalogue → List (RelNo × Row) → List (RelNo × Row) → ℕ → Type 0

@@ -66,14 +66,15 @@ pub use Rattle.sdd_laws.specs.lang.declared.condition.Ref.{Ref}
 pub use Rattle.sdd_laws.specs.lang.declared.statement.Stmt.{Stmt}
 pub use Rattle.sdd_laws.specs.lang.declared.statement.Stmt.TheVariants.{Delete, Put, Query, Update}
 pub use Rattle.sdd_laws.specs.lang.declared.transaction.Txn.{Txn}
+pub use Rattle.sdd_laws.specs.links.Attempts.{Attempt, Committed, HasCommit, IsAttempt, IsCommitted, attempt_of, attempts, changes, committed, p2_time, reads}
+pub use Rattle.sdd_laws.specs.links.Examples.{high_keys, low_keys, misses_both, put, reads_before, row_of, starts_again, waits_at_two, waits_for_other, with_classes}
+pub use Rattle.sdd_laws.specs.links.Numbers.{AreFragments, ChangeExists, CondExists, ExistsIn, IsClass, IsFragment, IsFrom1To, IsModule, NumbersExist, UseExists}
+pub use Rattle.sdd_laws.specs.links.Orderable.{IsOrderable}
+pub use Rattle.sdd_laws.specs.links.Places.{IsRecordAt, event_at, placed, record_at}
+pub use Rattle.sdd_laws.specs.links.Precedence.{HasNoCycle, is_answer, module_of}
 pub use Rattle.sdd_laws.specs.protocol.Conditions.{is_read_at}
 pub use Rattle.sdd_laws.specs.protocol.Protocols.{IsTable, entry_of, protocol_in}
 pub use Rattle.sdd_laws.specs.protocol.declared.entry.Entry.{Entry}
 pub use Rattle.sdd_laws.specs.protocol.declared.protocol.Protocol.TheVariants.{P1, P2, P3}
-pub use Rattle.sdd_laws.specs.serial_orders.Attempts.{Attempt, Committed, HasCommit, IsAttempt, IsCommitted, attempt_of, attempts, changes, committed, p2_time, reads}
-pub use Rattle.sdd_laws.specs.serial_orders.Examples.{high_keys, low_keys, misses_both, put, reads_before, row_of, starts_again, waits_at_two, waits_for_other, with_classes}
-pub use Rattle.sdd_laws.specs.serial_orders.Numbers.{AreFragments, ChangeExists, CondExists, ExistsIn, IsClass, IsFragment, IsFrom1To, IsModule, NumbersExist, UseExists}
-pub use Rattle.sdd_laws.specs.serial_orders.Orders.{IsOrderable, IsSerial}
-pub use Rattle.sdd_laws.specs.serial_orders.Places.{IsRecordAt, event_at, placed, record_at}
-pub use Rattle.sdd_laws.specs.serial_orders.Precedence.{HasNoCycle, is_answer, module_of}
+pub use Rattle.sdd_laws.specs.serial_orders.Orders.{IsSerial}
 pub use Rattle.sdd_laws.specs.serial_orders.SerialOrder.{serial_order}

@@ -4,8 +4,8 @@ use Rattle.sdd_lang.specs.All.{Catalogue, RelNo, Row, dm_no, effect, txn_no}
 use Rattle.sdd_history.specs.declared.record.Rec.TheVariants.{Answer}
 use Rattle.sdd_history.specs.Records.{History}
 use Rattle.sdd_lang.specs.declared.transaction.Txn.{Txn}
-use Rattle.sdd_order.specs.Attempts.{Committed, IsCommitted, HasCommit}
-use Rattle.sdd_order.specs.Places.{IsRecordAt}
+use Rattle.sdd_links.specs.Attempts.{Committed, IsCommitted, HasCommit}
+use Rattle.sdd_links.specs.Places.{IsRecordAt}
 use Rattle.sdd_laws.specs.Deeds.{txn_at, Asks, AnsweredBefore, StartedBefore}
 use Rattle.sdd_laws.specs.Snapshots.{base_of}
 

@@ -3,8 +3,8 @@ use Rattle.std.specs.Prelude.{ℕ, ◌<◌, ◌≡◌}
 use Rattle.sdd_lang.specs.All.{Catalogue, class_no, dm_no, time_at, txn_no}
 use Rattle.sdd_history.specs.declared.record.Rec.TheVariants.{Apply}
 use Rattle.sdd_history.specs.Records.{History}
-use Rattle.sdd_order.specs.Attempts.{Committed, IsCommitted}
-use Rattle.sdd_order.specs.Places.{IsRecordAt}
+use Rattle.sdd_links.specs.Attempts.{Committed, IsCommitted}
+use Rattle.sdd_links.specs.Places.{IsRecordAt}
 use Rattle.sdd_laws.specs.Deeds.{IsAnswered, IsApplied, AppliedBefore, Touches, GoesTo}
 
 -- the transaction of an Apply is committed before, with this timestamp and class, and is to be applied at the module

@@ -5,8 +5,8 @@ use Rattle.sdd_history.specs.Records.{History}
 use Rattle.sdd_protocol.specs.Conditions.{conditions, undeclared_conditions}
 use Rattle.sdd_protocol.specs.Protocols.{IsTable}
 use Rattle.sdd_protocol.specs.declared.entry.Entry.{Entry}
-use Rattle.sdd_order.specs.Attempts.{Attempt, Committed, IsAttempt, IsCommitted, p2_time}
-use Rattle.sdd_order.specs.Places.{event_at}
+use Rattle.sdd_links.specs.Attempts.{Attempt, Committed, IsAttempt, IsCommitted, p2_time}
+use Rattle.sdd_links.specs.Places.{event_at}
 use Rattle.sdd_laws.specs.Deeds.{AppliedBefore, IsAnswered, TouchesOne}
 use Rattle.sdd_laws.specs.Eras.{Eras, catalogue_at}
 

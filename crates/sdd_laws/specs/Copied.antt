@@ -1,7 +1,7 @@
 -- When two modules have applied the same of what changes a fragment.
 use Rattle.std.specs.Prelude.{ℕ, ◌≡◌, ◌↔◌, true}
 use Rattle.sdd_history.specs.Records.{History}
-use Rattle.sdd_order.specs.Attempts.{Committed, IsCommitted, changes}
+use Rattle.sdd_links.specs.Attempts.{Committed, IsCommitted, changes}
 use Rattle.sdd_laws.specs.Deeds.{AppliedBefore}
 
 -- of the committed transactions that change fragment f those applied at module a before place j are those applied at

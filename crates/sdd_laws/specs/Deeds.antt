@@ -5,9 +5,9 @@ use Rattle.sdd_lang.specs.All.{Catalogue, FragNo, class_no, contains, dm_no, has
 use Rattle.sdd_history.specs.declared.record.Rec.TheVariants.{Answer, Apply}
 use Rattle.sdd_history.specs.Records.{History}
 use Rattle.sdd_lang.specs.declared.transaction.Txn.{Txn}
-use Rattle.sdd_order.specs.Attempts.{Attempt, Committed, IsAttempt, HasCommit, reads, changes}
-use Rattle.sdd_order.specs.Numbers.{IsModule}
-use Rattle.sdd_order.specs.Places.{IsRecordAt}
+use Rattle.sdd_links.specs.Attempts.{Attempt, Committed, IsAttempt, HasCommit, reads, changes}
+use Rattle.sdd_links.specs.Numbers.{IsModule}
+use Rattle.sdd_links.specs.Places.{IsRecordAt}
 
 -- the transaction with a number, counted from 1
 abbrev pub txn_at : List Txn → ℕ → Option Txn

@@ -8,7 +8,7 @@ use Rattle.sdd_laws.specs.Answers.{KeepsAnswers}
 use Rattle.sdd_laws.specs.Applies.{KeepsApplies}
 use Rattle.sdd_laws.specs.Conditions.{KeepsConditions}
 use Rattle.sdd_laws.specs.Eras.{Eras, AreEras}
-use Rattle.sdd_order.specs.Numbers.{NumbersExist}
+use Rattle.sdd_links.specs.Numbers.{NumbersExist}
 use Rattle.sdd_laws.specs.Numbers.{TxnsExist}
 use Rattle.sdd_laws.specs.Redeclares.{KeepsEras}
 use Rattle.sdd_laws.specs.Starts.{KeepsStarts}

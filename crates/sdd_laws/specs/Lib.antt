@@ -28,5 +28,6 @@ pub use Rattle.sdd_history.specs as history
 pub use Rattle.sdd_lang.specs as lang
 pub use Rattle.sdd_lang.specs.base as base
 pub use Rattle.sdd_lang.specs.catalog as catalog
+pub use Rattle.sdd_links.specs as links
 pub use Rattle.sdd_order.specs as serial_orders
 pub use Rattle.sdd_protocol.specs as protocol

@@ -4,7 +4,7 @@ use Rattle.std.specs.List.{All}
 use Rattle.sdd_history.specs.declared.record.Rec.{Rec}
 use Rattle.sdd_history.specs.declared.record.Rec.TheVariants.{Submit, Start, Arrive, Wait, Answer, Reject, Commit, Apply, Pass, Nothing}
 use Rattle.sdd_history.specs.Records.{History}
-use Rattle.sdd_order.specs.Numbers.{IsFrom1To}
+use Rattle.sdd_links.specs.Numbers.{IsFrom1To}
 
 -- of so many transactions
 abbrev pub NamesOneOf : ℕ → Rec → Type 0

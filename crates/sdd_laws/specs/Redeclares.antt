@@ -2,8 +2,8 @@
 use Rattle.std.specs.Prelude.{ℕ, ◌<◌, ◌≡◌}
 use Rattle.sdd_lang.specs.All.{Catalogue}
 use Rattle.sdd_history.specs.Records.{History}
-use Rattle.sdd_order.specs.Attempts.{Attempt, Committed, IsAttempt, IsCommitted}
-use Rattle.sdd_order.specs.Places.{event_at}
+use Rattle.sdd_links.specs.Attempts.{Attempt, Committed, IsAttempt, IsCommitted}
+use Rattle.sdd_links.specs.Places.{event_at}
 use Rattle.sdd_laws.specs.Deeds.{IsSubmitted, AppliedBefore, GoesTo}
 use Rattle.sdd_laws.specs.Eras.{Eras, eras_begun}
 

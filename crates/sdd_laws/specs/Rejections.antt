@@ -4,8 +4,8 @@ use Rattle.std.specs.Prelude.{ℕ, suc, ◌≤◌, ◌<◌, ◌≡◌, Some}
 use Rattle.sdd_lang.specs.All.{Catalogue, Cond, Ts, class_no, dm_no, time_at, txn_no}
 use Rattle.sdd_history.specs.declared.record.Rec.TheVariants.{Reject}
 use Rattle.sdd_history.specs.Records.{History}
-use Rattle.sdd_order.specs.Attempts.{Attempt, Committed, IsAttempt, IsCommitted}
-use Rattle.sdd_order.specs.Places.{IsRecordAt}
+use Rattle.sdd_links.specs.Attempts.{Attempt, Committed, IsAttempt, IsCommitted}
+use Rattle.sdd_links.specs.Places.{IsRecordAt}
 use Rattle.sdd_laws.specs.Conditions.{IsConditionOf}
 use Rattle.sdd_laws.specs.Deeds.{AppliedBefore, ChangesOne}
 use Rattle.sdd_laws.specs.Eras.{Eras}

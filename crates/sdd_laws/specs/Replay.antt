@@ -5,8 +5,8 @@ use Rattle.sdd_history.specs.Records.{History}
 use Rattle.sdd_lang.specs.declared.condition.Condition.TheVariants.{Const}
 use Rattle.sdd_lang.specs.declared.statement.Stmt.TheVariants.{Put, Query}
 use Rattle.sdd_lang.specs.declared.transaction.Txn.{Txn}
-use Rattle.sdd_order.specs.Attempts.{Committed, IsCommitted, changes}
-use Rattle.sdd_order.specs.Examples.{crossing, row_of, waits_for_other}
+use Rattle.sdd_links.specs.Attempts.{Committed, IsCommitted, changes}
+use Rattle.sdd_links.specs.Examples.{crossing, row_of, waits_for_other}
 use Rattle.sdd_order.specs.SerialOrder.{serial_order}
 use Rattle.sdd_laws.specs.Deeds.{txn_at, AppliedBefore}
 

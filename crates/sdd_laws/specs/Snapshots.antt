@@ -4,8 +4,8 @@ use Rattle.std.specs.List.{list_any, flat_map, position_or_len}
 use Rattle.sdd_lang.specs.All.{Catalogue, Change, Database, Item, RelNo, Row, ascending, database_of, frag_no, fragment_at, fragment_of, fragments_in, with_row}
 use Rattle.sdd_copy.specs.Contents.{Dated, contents}
 use Rattle.sdd_history.specs.Records.{History}
-use Rattle.sdd_order.specs.Attempts.{Attempt, Committed, committed}
-use Rattle.sdd_order.specs.Precedence.{module_of, is_answer, is_apply}
+use Rattle.sdd_links.specs.Attempts.{Attempt, Committed, committed}
+use Rattle.sdd_links.specs.Precedence.{module_of, is_answer, is_apply}
 
 -- a row that was there from the beginning has the date 0; of two with one key the later stands
 abbrev pub first_row : Catalogue → Item × Row → ℕ × Change

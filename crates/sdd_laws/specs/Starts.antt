@@ -5,8 +5,8 @@ use Rattle.sdd_history.specs.declared.record.Rec.{Rec}
 use Rattle.sdd_history.specs.declared.record.Rec.TheVariants.{Start}
 use Rattle.sdd_history.specs.Records.{History}
 use Rattle.sdd_lang.specs.declared.transaction.Txn.{Txn}
-use Rattle.sdd_order.specs.Attempts.{Attempt, Committed, IsAttempt, IsCommitted, HasCommit, p2_time}
-use Rattle.sdd_order.specs.Places.{event_at}
+use Rattle.sdd_links.specs.Attempts.{Attempt, Committed, IsAttempt, IsCommitted, HasCommit, p2_time}
+use Rattle.sdd_links.specs.Places.{event_at}
 use Rattle.sdd_laws.specs.Deeds.{txn_at, IsSubmitted, CommittedBefore}
 use Rattle.sdd_laws.specs.Eras.{Eras, catalogue_at}
 

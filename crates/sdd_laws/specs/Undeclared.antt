@@ -2,8 +2,8 @@
 use Rattle.std.specs.Prelude.{ℕ, ◌<◌, ◌≡◌, ◌≢◌, ◌⊎◌}
 use Rattle.sdd_lang.specs.All.{Catalogue}
 use Rattle.sdd_history.specs.Records.{History}
-use Rattle.sdd_order.specs.Attempts.{Committed, IsCommitted}
-use Rattle.sdd_order.specs.Numbers.{IsModule}
+use Rattle.sdd_links.specs.Attempts.{Committed, IsCommitted}
+use Rattle.sdd_links.specs.Numbers.{IsModule}
 use Rattle.sdd_laws.specs.Deeds.{AppliedBefore, GoesTo, IsAnswered}
 
 -- t is wholly before u: committed before u starts, and applied wherever it is to be before u is answered there

@@ -1,5 +1,5 @@
 ghost use Rattle.std.specs.Prelude.{ℕ, ◌≡◌};
-ghost use Rattle.sdd_order.specs.Precedence as precedence;
+ghost use Rattle.sdd_links.specs.Precedence as precedence;
 ghost use Rattle.sdd_laws.specs.Copied.{AreAppliedAlike};
 ghost use Rattle.sdd_laws.specs.Snapshots as snapshots;
 

@@ -5,8 +5,8 @@
 //! transactions by their numbers, from 1.
 ghost use Rattle.std.specs.Prelude.{All};
 ghost use Rattle.sdd_lang.specs.All.{PutsHeld};
-ghost use Rattle.sdd_order.specs.Orders.{IsOrderable};
-ghost use Rattle.sdd_order.specs.Precedence.{HasNoCycle};
+ghost use Rattle.sdd_links.specs.Orderable.{IsOrderable};
+ghost use Rattle.sdd_links.specs.Precedence.{HasNoCycle};
 ghost use Rattle.sdd_laws.specs.Few.{AreFew};
 ghost use Rattle.sdd_laws.specs.Kept.{FitTogether, KeepsLaws};
 ghost use Rattle.sdd_laws.specs.Rejections.{KeepsRejections};

@@ -75,8 +75,8 @@ pub use Rattle.sdd_laws.proofs.class_eras.EraSets.{IsCovered, covered, covered_i
 pub use Rattle.sdd_laws.proofs.copy.Contents.{eq_is, same_key}
 pub use Rattle.sdd_laws.proofs.lang.Sets.{each_append as all_joined, each_filtered as all_kept}
 pub use Rattle.sdd_laws.proofs.lang.catalog.Sound.{positive as some_class}
-pub use Rattle.sdd_laws.proofs.serial_orders.Before.{or_cases as either}
-pub use Rattle.sdd_laws.proofs.serial_orders.Members.{Contains-range}
+pub use Rattle.sdd_laws.proofs.links.Before.{or_cases as either}
+pub use Rattle.sdd_laws.proofs.links.Members.{Contains-range}
 pub use Rattle.sdd_laws.specs.All.{ArePlaced, CopyRows, Dated, Frozen, IsEraOf, IsPlaced, Read as ReadPlace, Reject as Rejected, all_rows, attempt_of, attempts, contents, counts_of, frozen_for, is_among, keys_in, latest, newer, of_fragment, placed, reduced, row_left, row_with, rows_for, rows_of, values_in}
 pub use Rattle.sdd_needs.specs.AfterEvents.{down_from, is_down_after, redeclares_in}
 pub use Rattle.sdd_obligations.specs.Awaited.{AwaitsRows, IsAwaited, IsReadable, IsServable}

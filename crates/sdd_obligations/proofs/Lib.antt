@@ -93,6 +93,7 @@ pub use Rattle.sdd_invariants.proofs.attempt as attempt
 pub use Rattle.sdd_invariants.proofs.dm as dm
 pub use Rattle.sdd_invariants.proofs.tm as tm
 pub use Rattle.sdd_invariants.proofs.umod as umod
+pub use Rattle.sdd_laws.proofs.links as links
 pub use Rattle.sdd_laws.proofs.serial_orders as serial_orders
 pub use Rattle.sdd_laws.proofs as laws
 pub use Rattle.sdd_invariants.proofs.logs as logs

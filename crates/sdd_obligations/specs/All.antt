@@ -128,12 +128,13 @@ pub use Rattle.sdd_obligations.specs.protocol.declared.protocol.Protocol.{Protoc
 pub use Rattle.sdd_obligations.specs.protocol.declared.protocol.Protocol.TheVariants.{P1, P2, P3}
 pub use Rattle.sdd_obligations.specs.semijoin.Steps.{Join, Move, better, fewest, is_candidate, joins_from, moves, moves_by, next_move, rows_at}
 pub use Rattle.sdd_obligations.specs.semijoin.declared.step.Step.{Step}
-pub use Rattle.sdd_obligations.specs.serial_orders.Attempts.{Committed, HasCommit, IsAttempt, IsCommitted, attempt_of, attempts, committed, committed_of, p2_time}
-pub use Rattle.sdd_obligations.specs.serial_orders.Examples.{row_of}
-pub use Rattle.sdd_obligations.specs.serial_orders.Numbers.{IsClass, IsFrom1To, IsModule}
-pub use Rattle.sdd_obligations.specs.serial_orders.Orders.{IsOrderable, IsSerial}
-pub use Rattle.sdd_obligations.specs.serial_orders.Places.{IsRecordAt, event_at, placed}
-pub use Rattle.sdd_obligations.specs.serial_orders.Precedence.{HasNoCycle, is_apply}
+pub use Rattle.sdd_obligations.specs.links.Attempts.{Committed, HasCommit, IsAttempt, IsCommitted, attempt_of, attempts, committed, committed_of, p2_time}
+pub use Rattle.sdd_obligations.specs.links.Examples.{row_of}
+pub use Rattle.sdd_obligations.specs.links.Numbers.{IsClass, IsFrom1To, IsModule}
+pub use Rattle.sdd_obligations.specs.links.Orderable.{IsOrderable}
+pub use Rattle.sdd_obligations.specs.serial_orders.Orders.{IsSerial}
+pub use Rattle.sdd_obligations.specs.links.Places.{IsRecordAt, event_at, placed}
+pub use Rattle.sdd_obligations.specs.links.Precedence.{HasNoCycle, is_apply}
 pub use Rattle.sdd_obligations.specs.site_module.SiteLog.{Act, AreDue, Bases, Did, Each, Era, Handed, Records, Redeclared, Sends, Setting, Submits, Ticked, answers_hand, current_era, hands, log_after, records_of, records_of_act, sends_of, sends_of_act}
 pub use Rattle.sdd_obligations.specs.tm.Due.{by_ask, exchange_due, held_due, null_at, null_due, null_time, null_to, start_due, start_of}
 pub use Rattle.sdd_needs.specs.tm.OpenAsks.{AreOpen, Rise}

@@ -31,6 +31,7 @@ pub use Rattle.sdd_invariants.specs.wire as wire
 pub use Rattle.sdd_laws.specs as laws
 pub use Rattle.sdd_laws.specs.class_eras as class_eras
 pub use Rattle.sdd_laws.specs.copy as copy
+pub use Rattle.sdd_laws.specs.links as links
 pub use Rattle.sdd_laws.specs.serial_orders as serial_orders
 pub use Rattle.sdd_needs.specs as needs
 pub use Rattle.sdd_invariants.specs.site_rules as site_rules

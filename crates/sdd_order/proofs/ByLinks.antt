@@ -1,13 +1,13 @@
 -- Along the links the serial order is found.
 use Rattle.sdd_order.proofs.All.{All, AreMarks, Catalogue, Committed, Contains, Contains-here, Contains-later, History, IsClass, IsOrderable, IsPath, Links, List, Marks, Some, UseExists, [], ap, arith, committed, cons_option, eq-eqb, get_or, get_or-map-range_with_len, get_or_default, has_link, in_order, length, length-map-range_with_len, links, map, nodes, numbers_at, option_map, order_of, precedes, refl, rules, same_Some, same_lists, serial_order, slice_get, slice_get-get_or, slice_get_within, sym, taken, true, txn_no, ℕ, ◌<◌, ◌∙◌, ◌∷◌, ◌≡◌}
-use Rattle.sdd_order.proofs.Alike.{taken_by_members, taken-map, taken_by_links}
-use Rattle.sdd_order.proofs.Ascending.{from_range}
-use Rattle.sdd_order.proofs.Members.{All-members, Contains-range, member_passes, passes_member, place_of}
-use Rattle.sdd_order.proofs.Paths.{path_as}
-use Rattle.sdd_order.proofs.Taken.{taken_is}
-use Rattle.sdd_order.proofs.EachLink.{class_exists, uses_exist, link_precedes}
-use Rattle.sdd_order.proofs.EachPrecedence.{precedence_linked}
-use Rattle.sdd_order.proofs.Implied.{AreInOrder}
+use Rattle.sdd_links.proofs.Alike.{taken_by_members, taken-map, taken_by_links}
+use Rattle.sdd_links.proofs.Ascending.{from_range}
+use Rattle.sdd_links.proofs.Members.{All-members, Contains-range, member_passes, passes_member, place_of}
+use Rattle.sdd_links.proofs.Paths.{path_as}
+use Rattle.sdd_links.proofs.Taken.{taken_is}
+use Rattle.sdd_links.proofs.EachLink.{class_exists, uses_exist, link_precedes}
+use Rattle.sdd_links.proofs.EachPrecedence.{precedence_linked}
+use Rattle.sdd_links.proofs.Implied.{AreInOrder}
 use Rattle.sdd_order.proofs.Serial.{differ}
 
 is_link : (some : Links) (i j : ℕ) → Contains some (i, j) → has_link some i j ≡ true

@@ -1,8 +1,8 @@
 -- The committed transactions, sorted by their timestamps.
 use Rattle.sdd_order.proofs.All.{All-contains, All-contains_itself, All-permutation, AllByRecursion, Attempt, Bool, Catalogue, Committed, Contains, Contains-cases, Contains-here, Contains-later, Contains-nil, History, IsCommitted, IsDistinct-IsPermutation, IsDistinct-cons, IsDistinct-head, IsDistinct-tail, IsNonDecreasingBy, IsOrderable, IsPermutation, IsPermutation-sym, List, None, Rec, Some, [], ap, arith, attempts, cases_eq, cases_lt, committed, committed_of, cons_option, eq-eqb, false, filter_map, get_or, inl, inr, length, ne_eqb, placed, refl, same_Some, slice_get, slice_get-get_or, slice_get_within, subst, suc, sym, true, zero, ℕ, ◌<◌, ◌==◌, ◌∙◌, ◌∷◌, ◌≡◌, ◌≤◌}
 use Rattle.std.specs.List.{IsDistinct}
-use Rattle.sdd_order.proofs.Found.{from_committed}
-use Rattle.sdd_order.proofs.Implied.{AreInOrder}
+use Rattle.sdd_links.proofs.Found.{from_committed}
+use Rattle.sdd_links.proofs.Implied.{AreInOrder}
 use Rattle.sdd_order.proofs.Serial.{one_of_time}
 
 abbrev same_place : Committed → Committed → Bool

@@ -1,10 +1,10 @@
 -- In the serial order of an orderable history each committed transaction stands once, after its predecessors.
 use Rattle.sdd_order.proofs.All.{Catalogue, Committed, Contains, Contains-here, Contains-later, History, IsAlong, IsCommitted, IsOrderable, IsSerial, List, Precedes, TxnNo, [], ap, arith, cases_Bool, committed, false, in_order, length, map, precedes, serial_order, sym, txn_no, ℕ, ◌∙◌, ◌∷◌, ◌≡◌, ◌⊎◌}
-use Rattle.sdd_order.proofs.Found.{from_committed, in_committed}
-use Rattle.sdd_order.proofs.Members.{Contains-map, Contains-from_map}
-use Rattle.sdd_order.proofs.Places.{one_of_txn}
-use Rattle.sdd_order.proofs.Ready.{ready_for}
-use Rattle.sdd_order.proofs.Taken.{Differ, taken_is, taken_whole, IsAlongBy, taken_along}
+use Rattle.sdd_links.proofs.Found.{from_committed, in_committed}
+use Rattle.sdd_links.proofs.Members.{Contains-map, Contains-from_map}
+use Rattle.sdd_links.proofs.Implied.{one_txn}
+use Rattle.sdd_links.proofs.Ready.{ready_for}
+use Rattle.sdd_links.proofs.Taken.{Differ, taken_is, taken_whole, IsAlongBy, taken_along}
 
 abbrev pub time_of : Committed → ℕ
 time_of t = t.start.ts
@@ -13,12 +13,9 @@ abbrev pub name_of : Committed → TxnNo
 name_of t = txn_no t.start.txn
 
 module _ (cat : Catalogue) (h : History) (o : IsOrderable cat h) where
-  pub one_txn : (t u : Committed) → IsCommitted h t → IsCommitted h u → t.start.txn ≡ u.start.txn → t ≡ u
-  one_txn = one_of_txn h o.one_commit o.one_start
-
   -- committed transactions with one timestamp are one
   pub one_of_time : (t u : Committed) → IsCommitted h t → IsCommitted h u → t.start.ts ≡ u.start.ts → t ≡ u
-  one_of_time t u p q e = grind (arith, one_txn)
+  one_of_time t u p q e = grind (arith, (one_txn cat h o))
 
   pub differ : Differ time_of (committed h)
   differ t u m n e = one_of_time t u (from_committed h t m) (from_committed h u n) e
@@ -48,13 +45,13 @@ module _ (cat : Catalogue) (h : History) (o : IsOrderable cat h) where
           other = λ n m e.
               let u = Contains-from_map name_of rest n m in
               let named : n.0 ≡ u.0.start.txn = ap (λ (z : TxnNo). z.0) u.2 in
-              let same = one_txn u.0 x (later u.0 u.1) here (sym named ∙ e) in
+              let same = one_txn cat h o u.0 x (later u.0 u.1) here (sym named ∙ e) in
               (a.0 u.0 u.1).0 (ap time_of same);
           first = λ t y p q e m.
               let u = Contains-from_map name_of rest (txn_no y.start.txn) m in
               let named : y.start.txn ≡ u.0.start.txn = ap (λ (z : TxnNo). z.0) u.2 in
-              let first : t ≡ x = one_txn t x p here e in
-              let other : y ≡ u.0 = one_txn y u.0 q (later u.0 u.1) named in
+              let first : t ≡ x = one_txn cat h o t x p here e in
+              let other : y ≡ u.0 = one_txn cat h o y u.0 q (later u.0 u.1) named in
               ap (λ z. precedes cat h z t) other ∙ ap (λ z. precedes cat h u.0 z) first ∙ (a.0 u.0 u.1).1;
         },
         along_by_names rest later a.1,

@@ -1,13 +1,3 @@
-pub mod Attempts
 pub mod Examples
-pub mod Finding
-pub mod Groups
-pub mod Linked
-pub mod Numbers
 pub mod Orders
-pub mod Paths
-pub mod Places
-pub mod Precedence
 pub mod SerialOrder
-pub mod Taken
-pub mod Taking

@@ -1,17 +1,14 @@
 ghost use Rattle.std.specs.Prelude.{◌≡◌, option_map, slice_get, IfOk};
 ghost use Rattle.std.specs.List.Sorted.{IsPermutation, IsNonDecreasingBy};
-ghost use Rattle.sdd_lang.specs.All.{txn_no};
-ghost use Rattle.sdd_order.specs.Attempts.{committed};
-ghost use Rattle.sdd_order.specs.Linked.{numbers_at};
-ghost use Rattle.sdd_order.specs.Orders.{IsOrderable, IsSerial};
-ghost use Rattle.sdd_order.specs.SerialOrder.{serial_order};
+ghost use Rattle.sdd_links.specs.lang.All.{txn_no};
+ghost use Rattle.sdd_links.specs.Attempts.{committed};
+ghost use Rattle.sdd_links.specs.Orderable.{IsOrderable};
+ghost use Rattle.sdd_order.specs.Orders.{IsSerial};
+ghost use Rattle.sdd_order.specs.SerialOrder.{numbers_at, serial_order};
 
-use crate::attempts::{Committed, find_committed};
-use crate::links::find_links;
-use crate::seen::Marks;
-use crate::taking::order_of;
-use sdd_history::Rec;
-use sdd_lang::{Catalogue, NoMemory, TxnNo};
+use sdd_links::{
+    Catalogue, Committed, Marks, NoMemory, Rec, TxnNo, find_committed, find_links, order_of,
+};
 use std::alloc::Global;
 
 /// The serial order of what was committed: again and again the transaction with the least

@@ -92,6 +92,8 @@ pub use Rattle.sdd_obligations.proofs.invariants.logs.umod.Lists.{or_nothing as 
 pub use Rattle.sdd_obligations.proofs.lang.SortedEntries.{sorted_nil}
 pub use Rattle.sdd_obligations.proofs.laws.NumberedStarts.{one_start, start_counts}
 pub use Rattle.sdd_obligations.proofs.laws.Times.{condition_time}
+pub use Rattle.sdd_obligations.proofs.links.Members.{Contains-from_filter_map, Contains-from_map, Contains-map}
+pub use Rattle.sdd_obligations.proofs.links.Places.{same_commit, same_start}
 pub use Rattle.sdd_obligations.proofs.logs.AsLists.{next_mark_is}
 pub use Rattle.sdd_obligations.proofs.logs.Completing.{complete_parts}
 pub use Rattle.sdd_obligations.proofs.logs.EachLocal.{allowed_act, each_local}
@@ -102,8 +104,6 @@ pub use Rattle.sdd_obligations.proofs.needs.OfNext.{IsThere}
 pub use Rattle.sdd_obligations.proofs.net.Directions.{link_parts}
 pub use Rattle.sdd_obligations.proofs.net.Sound.{sound}
 pub use Rattle.sdd_obligations.proofs.protocol.ConditionOn.{condition_class, condition_is}
-pub use Rattle.sdd_obligations.proofs.serial_orders.Members.{Contains-from_filter_map, Contains-from_map, Contains-map}
-pub use Rattle.sdd_obligations.proofs.serial_orders.Places.{same_commit, same_start}
 pub use Rattle.sdd_obligations.proofs.site_module.Finding.{found_at}
 pub use Rattle.sdd_obligations.proofs.tm.OpenAsks.{open_did, open_handed}
 pub use Rattle.sdd_obligations.proofs.umod.Counts.{commits_same as hand_commits}

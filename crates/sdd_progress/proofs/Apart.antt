@@ -5,7 +5,7 @@ use Rattle.sdd_progress.proofs.SinceRedeclare.{redeclares_back}
 use Rattle.sdd_progress.proofs.AtRest.{IsRest, applied_by, committed_by, rest}
 use Rattle.sdd_progress.proofs.Fronts.{ends, history_le, recorded_front, redeclare_between}
 use Rattle.sdd_progress.proofs.Known.{Known, begun_at}
-use Rattle.sdd_obligations.specs.serial_orders.Attempts.{Attempt}
+use Rattle.sdd_obligations.specs.links.Attempts.{Attempt}
 
 -- a list was put in force after the Submit at a place and before an upper end
 pub record IsApart (g : Input) (log : Log) (n place : ℕ) (upper : Log) : Type 0 where

@@ -4,7 +4,7 @@ use Rattle.sdd_progress.proofs.Applied.{all_applied}
 use Rattle.sdd_progress.proofs.ErasOf.{are_eras_of}
 use Rattle.sdd_progress.proofs.OwnCopies.{own_copy}
 use Rattle.sdd_progress.proofs.Still.{module_up, still_of}
-use Rattle.sdd_obligations.specs.serial_orders.Attempts.{changes}
+use Rattle.sdd_obligations.specs.links.Attempts.{changes}
 
 -- what changes a fragment is applied at a copy whose module is up and has processed all of its class
 pub applied_at : (g : Input) (log : Log) (t : Committed) (f d : ℕ) → IsSoundCatalogue g.catalogue → IsStill g log → HasSoundLists g log

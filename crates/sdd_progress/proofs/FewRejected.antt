@@ -3,7 +3,7 @@
 use Rattle.sdd_progress.proofs.All.{AreFewRejected, Catalogue, Eras, History, IsAttempt, IsRecordAt, KeepsRejections, KeepsRejects, KeepsStarts, List, Rec, Reject, Start, Txn, and_parts, any_at, ap, arith, cases_Bool, class_no, commits_of_others, dm_no, eqb-true, inl, inr, is_reject_of, is_rejected, is_rejected_start, is_start_of, option_map, refl, rejected_of, starts_before, starts_of, subst, suc, time_at, true, txn_no, zero, ℕ, ◌&&◌, ◌==◌, ◌∙◌, ◌≡◌, ◌≤◌}
 use Rattle.sdd_progress.proofs.Last.{fewer, last_passing, less}
 use Rattle.sdd_progress.proofs.Writers.{WritersBelow, low_of_condition, low_time, one_more, writers, writers_count}
-use Rattle.sdd_obligations.specs.serial_orders.Attempts.{Attempt}
+use Rattle.sdd_obligations.specs.links.Attempts.{Attempt}
 
 -- a Start at a place is that of an attempt
 pub record IsStartAt (h : History) (n k : ℕ) (r : Rec) : Type 0 where

@@ -5,7 +5,7 @@ use Rattle.sdd_progress.proofs.Apart.{apart}
 use Rattle.sdd_progress.proofs.AtRest.{commit_there}
 use Rattle.sdd_progress.proofs.Fronts.{in_longer, longer}
 use Rattle.sdd_progress.proofs.Known.{Known, begun_at, commit_done}
-use Rattle.sdd_obligations.specs.serial_orders.Attempts.{Attempt}
+use Rattle.sdd_obligations.specs.links.Attempts.{Attempt}
 use Rattle.sdd_lawful.proofs.Classes.{at_home}
 
 module _ (g : Input) (log : Log) (w : Known g log) where

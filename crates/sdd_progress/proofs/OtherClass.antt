@@ -2,7 +2,7 @@
 use Rattle.sdd_progress.proofs.All.{All-contains, Bool, Catalogue, Cond, Contains, Contains-from_filter_map, Contains-from_map, Contains-here, Contains-map, Diagonal, Edge, FragNo, IsEdgeOf, IsTable, List, P2, P3, Protocol, Some, and_parts, ap, arith, ascending, asked_by, asked_in, class_no, cond, cond_of, condition_class, condition_is, condition_on, conditions, conditions_of, conflict_graph, each_to, edges_known, eqb-true, false, frag_no, fragments_in, fragments_of, inl, inr, is_asked, length, map, p2_time, refl, subst, sym, true, undeclared_conditions, ℕ, ◌==◌, ◌∙◌, ◌∷◌, ◌≡◌, ◌≢◌, ◌≤◌}
 use Rattle.sdd_obligations.specs.All.{classes_of}
 use Rattle.sdd_obligations.specs.protocol.declared.entry.Entry.{Entry}
-use Rattle.sdd_obligations.specs.serial_orders.Attempts.{Attempt}
+use Rattle.sdd_obligations.specs.links.Attempts.{Attempt}
 
 -- a diagonal of the table from the one class to the other
 pub record HasDiagonal (entries : List Entry) (i j : ℕ) : Type 0 where

@@ -3,7 +3,7 @@ use Rattle.sdd_progress.proofs.All.{AppliedBefore, AreSubmittedOnce, Attempt, Ba
 use Rattle.sdd_lawful.proofs.Applied.{applied_there, apply_in, apply_rec}
 use Rattle.sdd_lawful.proofs.Committed.{same_committed}
 use Rattle.sdd_obligations.specs.All.{IsClassOf}
-use Rattle.sdd_obligations.specs.serial_orders.Attempts.{changes}
+use Rattle.sdd_obligations.specs.links.Attempts.{changes}
 use Rattle.sdd_progress.proofs.Committed.{at_home_by, committed_where_none_queued}
 use Rattle.sdd_progress.proofs.Copies.{applied_at}
 use Rattle.sdd_progress.proofs.Dones.{AreServedApplied}

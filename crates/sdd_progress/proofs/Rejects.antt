@@ -2,7 +2,7 @@
 use Rattle.sdd_progress.proofs.All.{Act, AppliedBefore, AreErasOf, ClassNo, Committed, Cond, D, Does, Entry, Eras, Input, IsAttempt, IsCommitted, IsConditionOf, IsDataIn, IsPermitted, IsSoundCatalogue, KeepsRejects, KeepsStarts, Log, Rec, Records, Reject as Rejected, Setting, Some, [], allowed_act, ap, append_assoc, applied_before, arith, catalogue_at, class_no, commit_act, commit_of_log, d_step, data_in, dm_no, event_at, first_of_filter, further_back, history, home, keeps_starts, length, local_of, read_condition, read_of_some, refl, rejecting, setting_of, slice_get, spoils, spoilt_by, subst, sym, time_at, touched_one, txn_no, view_of, ℕ, ◌++◌, ◌∙◌, ◌∷◌, ◌≡◌, ◌≢◌}
 use Rattle.sdd_progress.proofs.OtherClass.{other_class}
 use Rattle.sdd_progress.proofs.Writers.{one_class}
-use Rattle.sdd_obligations.specs.serial_orders.Attempts.{Attempt}
+use Rattle.sdd_obligations.specs.links.Attempts.{Attempt}
 use Rattle.sdd_obligations.specs.site_module.SiteLog as site
 
 -- the writer has another class than the attempt, so it is another transaction

@@ -2,7 +2,7 @@
 use Rattle.sdd_progress.proofs.All.{AllByRecursion, Catalogue, Commit, Committed, Cond, Eras, History, IsAgain, IsAttempt, IsCommitted, IsConditionOf, IsDistinct-cons, IsRecordAt, KeepsRejections, KeepsStarts, List, Option, Some, Ts, Txn, [], ap, arith, cases_lt, commits_of_others, condition_time, eqb, false, is_commit_of_other, length, ne_eqb, not, one_start, option_map, refl, same_Some, same_commit, same_start, start_counts, subst, suc, sym, txn_no, unwrap_or, zero, ℕ, ◌<◌, ◌∙◌, ◌∷◌, ◌≡◌, ◌≢◌, ◌≤◌, ◌⊎◌}
 use Rattle.std.specs.List.{IsDistinct}
 use Rattle.sdd_progress.proofs.Places.{Passes, few_places}
-use Rattle.sdd_obligations.specs.serial_orders.Attempts.{Attempt}
+use Rattle.sdd_obligations.specs.links.Attempts.{Attempt}
 use Rattle.sdd_progress.proofs.FewClasses.{each_weaker}
 
 -- the lower one of an attempt's two times

@@ -4,7 +4,7 @@ use Rattle.sdd_obligations.specs.history.Records.{History}
 use Rattle.sdd_obligations.specs.history.declared.record.Rec.{Rec}
 use Rattle.sdd_obligations.specs.history.declared.record.Rec.TheVariants.{Submit}
 use Rattle.sdd_obligations.specs.laws.Deeds.{IsSubmitted}
-use Rattle.sdd_obligations.specs.serial_orders.Attempts.{HasCommit}
+use Rattle.sdd_obligations.specs.links.Attempts.{HasCommit}
 
 -- the history has a Commit of transaction n
 pub record WasCommitted (h : History) (n : ℕ) : Type 0 where

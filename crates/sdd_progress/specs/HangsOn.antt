@@ -15,8 +15,8 @@ use Rattle.sdd_obligations.specs.logs.Entries.{Input, Log, history}
 use Rattle.sdd_obligations.specs.logs.Locals.{local_of, setting_of}
 use Rattle.sdd_obligations.specs.logs.Resting.{IsModuleOf}
 use Rattle.sdd_obligations.specs.logs.Traffic.{is_down}
-use Rattle.sdd_obligations.specs.serial_orders.Attempts.{Committed, IsCommitted}
-use Rattle.sdd_obligations.specs.serial_orders.Numbers.{IsModule}
+use Rattle.sdd_obligations.specs.links.Attempts.{Committed, IsCommitted}
+use Rattle.sdd_obligations.specs.links.Numbers.{IsModule}
 use Rattle.sdd_obligations.specs.umod.Views.{counts, last_served}
 use Rattle.sdd_outage.specs.Tasks.{attempt, passing}
 use Rattle.sdd_progress.specs.Committed.{WasCommitted}

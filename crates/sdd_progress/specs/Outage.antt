@@ -13,8 +13,8 @@ use Rattle.sdd_obligations.specs.logs.Locals.{local_of, nth_era, redeclares, set
 use Rattle.sdd_obligations.specs.logs.Resting.{IsModuleOf}
 use Rattle.sdd_obligations.specs.logs.Traffic.{is_down}
 use Rattle.sdd_obligations.specs.protocol.declared.entry.Entry.{Entry}
-use Rattle.sdd_obligations.specs.serial_orders.Attempts.{Committed, IsCommitted, changes}
-use Rattle.sdd_obligations.specs.serial_orders.Numbers.{IsModule}
+use Rattle.sdd_obligations.specs.links.Attempts.{Committed, IsCommitted, changes}
+use Rattle.sdd_obligations.specs.links.Numbers.{IsModule}
 use Rattle.sdd_outage.specs.Needs.{Needs}
 use Rattle.sdd_outage.specs.Tasks.{Task, attempt, passing}
 use Rattle.sdd_progress.specs.Committed.{WasCommitted}

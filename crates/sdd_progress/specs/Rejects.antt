@@ -1,7 +1,7 @@
 -- The law of Rejects: why each attempt that is rejected is so.
 use Rattle.std.specs.Prelude.{ℕ, ◌<◌, ◌≤◌, ◌≡◌, ◌≢◌}
 use Rattle.sdd_obligations.specs.All.{AppliedBefore, Catalogue, ChangesOne, Committed, Cond, Eras, History, IsAttempt, IsCommitted, IsConditionOf, IsRecordAt, Reject, class_no, dm_no, time_at, txn_no}
-use Rattle.sdd_obligations.specs.serial_orders.Attempts.{Attempt}
+use Rattle.sdd_obligations.specs.links.Attempts.{Attempt}
 
 -- why a Reject at the place is of attempt `number` of transaction n, at module dm, and names the class and the timestamp
 pub record IsRejected (cat : Catalogue) (eras : Eras) (h : History) (n number dm class write place : ℕ) : Type 0 where

@@ -6,7 +6,7 @@ use Rattle.std.proofs.lemmas.List.{length-map, map-append}
 use Rattle.std.proofs.lemmas.List.Folds.{list_any-append, list_any-from_Any}
 use Rattle.std.proofs.lemmas.List.FromFn.{get_or-map-range_with_len, length-map-range_with_len, map-range_with_len_more}
 use Rattle.std.specs.List.{list_any, range_with_len}
-use Rattle.sdd_order.proofs.Members.{Contains-from_map}
+use Rattle.sdd_links.proofs.Members.{Contains-from_map}
 use Rattle.sdd_robust_laws.specs.Accesses.{are_apart, changes_for, columns_meet, meets, reads_from}
 use Rattle.sdd_robust_laws.specs.Shown.{AreLinked, IsBeside, IsDangerous}
 use Rattle.sdd_robust_laws.specs.Shown.AreLinked.{further, itself}

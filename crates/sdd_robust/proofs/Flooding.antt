@@ -5,7 +5,7 @@ use Rattle.std.proofs.lemmas.List.{length-append}
 use Rattle.std.proofs.lemmas.List.Elements.{Contains-append_cases, Contains-append_left, Contains-append_right, Contains-get_or, Contains-push_cases}
 use Rattle.std.proofs.lemmas.List.Filters.{length-filter_both}
 use Rattle.sdd_lang.proofs.base.Membership.{Contains-cases, Contains-here, Contains-nil}
-use Rattle.sdd_order.proofs.Members.{Contains-filter, Contains-from_filter, Contains-from_map, Contains-map}
+use Rattle.sdd_links.proofs.Members.{Contains-filter, Contains-from_filter, Contains-from_map, Contains-map}
 use Rattle.sdd_robust_laws.specs.Accesses.{conflict}
 use Rattle.sdd_robust_laws.specs.declared.access.Access.{Access}
 use Rattle.sdd_robust.specs.Leading.{Leads}

@@ -2,7 +2,7 @@
 use Rattle.std.proofs.Common.{Bool, Contains, List, ap, false, filter, inl, inr, not, refl, slice_index_or as get_or, subst, sym, take, true, length, ℕ, ◌&&◌, ◌<◌, ◌≡◌, ◌≤◌, ◌⊎◌}
 use Rattle.std.proofs.lemmas.Bool.{and_from, and_parts}
 use Rattle.std.proofs.lemmas.List.Folds.{Any-from_list_any, list_any-from_Any}
-use Rattle.sdd_order.proofs.Members.{Contains-filter, Contains-from_filter, Contains-from_map, Contains-map}
+use Rattle.sdd_links.proofs.Members.{Contains-filter, Contains-from_filter, Contains-from_map, Contains-map}
 use Rattle.sdd_robust_laws.specs.Accesses.{are_apart, are_of_one_row, changes_for, reads_from}
 use Rattle.sdd_robust_laws.specs.Shown.{AreLinked, IsBeside, IsDangerous}
 use Rattle.sdd_robust_laws.specs.Shown.AreLinked.{further as links_further, itself as links_itself}

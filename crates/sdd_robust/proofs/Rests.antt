@@ -2,7 +2,7 @@
 use Rattle.std.proofs.Common.{Bool, Contains, List, None, Option, Some, [], ap, false, inl, inr, not, refl, slice_index_or as get_or, subst, sym, true, ℕ, ◌&&◌, ◌∙◌, ◌∷◌, ◌≡◌, ◌⊎◌}
 use Rattle.std.proofs.lemmas.Bool.{and_from}
 use Rattle.sdd_lang.proofs.base.Membership.{Contains-cases, Contains-here, Contains-nil}
-use Rattle.sdd_order.proofs.Members.{Contains-from_filter, Contains-from_map}
+use Rattle.sdd_links.proofs.Members.{Contains-from_filter, Contains-from_map}
 use Rattle.sdd_robust_laws.specs.Accesses.{are_apart, conflict}
 use Rattle.sdd_robust_laws.specs.declared.access.Access.{Access}
 use Rattle.sdd_robust.specs.Leading.{Leads}

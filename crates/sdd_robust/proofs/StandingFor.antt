@@ -4,7 +4,7 @@ use Rattle.std.proofs.lemmas.List.{map-append, take_more}
 use Rattle.std.proofs.lemmas.List.Elements.{Contains-append_left, Contains-push, Contains-push_cases}
 use Rattle.std.specs.Borrow.{Bor}
 use Rattle.sdd_lang.proofs.base.Membership.{Contains-nil}
-use Rattle.sdd_order.proofs.Members.{Contains-from_map, Contains-map}
+use Rattle.sdd_links.proofs.Members.{Contains-from_map, Contains-map}
 use Rattle.sdd_robust_laws.specs.Shown.{AreLinked, IsBeside, IsDangerous}
 use Rattle.sdd_robust_laws.specs.Shown.AreLinked.{further, itself}
 use Rattle.sdd_robust_laws.specs.declared.access.Access.{Access}

@@ -7,7 +7,7 @@ use Rattle.std.proofs.lemmas.Bool.{cases_eq}
 use Rattle.std.proofs.lemmas.List.Elements.{filter-append}
 use Rattle.std.proofs.lemmas.List.FromFn.{get_or-range_with_len, length-range_with_len}
 use Rattle.std.proofs.lemmas.Nat.Bits.{bit_at-lt, bit_at-zero, bit_at_and, bit_at_clear_other, bit_at_clear_same}
-use Rattle.sdd_order.proofs.Members.{Contains-filter}
+use Rattle.sdd_links.proofs.Members.{Contains-filter}
 use Rattle.sdd_robust.specs.PlaceSets.{common, has, places_of, word_places}
 
 -- ---- filters over the numbers from one on

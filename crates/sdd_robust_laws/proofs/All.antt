@@ -35,13 +35,13 @@ pub use Rattle.sdd_lang.specs.declared.transaction.Txn.{Txn}
 pub use Rattle.sdd_laws.proofs.Changes.{Untouched, changed_at, some_change, untouched_at}
 pub use Rattle.sdd_laws.proofs.LookUps.{at_entry, entry_at, put_in, same_key, same_members, test_own}
 pub use Rattle.sdd_laws.proofs.Members.{Contains-filter, Contains-flat_map, Contains-from_filter, Contains-from_flat_map, Contains-from_map, Contains-map, all_have, each_has, is_in}
+pub use Rattle.sdd_laws.proofs.links.Members.{member_passes, passes_member}
+pub use Rattle.sdd_laws.proofs.links.Paths.{path_join}
+pub use Rattle.sdd_laws.proofs.links.Ready.{ready_for}
+pub use Rattle.sdd_laws.proofs.links.Taken.{IsAlongBy, taken_along, taken_is, taken_whole}
 pub use Rattle.sdd_laws.specs.Values.{row_at}
-pub use Rattle.sdd_order.proofs.Members.{member_passes, passes_member}
-pub use Rattle.sdd_order.proofs.Paths.{path_join}
-pub use Rattle.sdd_order.proofs.Ready.{ready_for}
-pub use Rattle.sdd_order.proofs.Taken.{IsAlongBy, taken_along, taken_is, taken_whole}
-pub use Rattle.sdd_order.specs.Paths.{IsOrderly, IsPath}
-pub use Rattle.sdd_order.specs.Taken.{taken}
+pub use Rattle.sdd_laws.specs.links.Paths.{IsOrderly, IsPath}
+pub use Rattle.sdd_laws.specs.links.Taken.{taken}
 pub use Rattle.sdd_robust_laws.specs.Accesses.{accesses, are_apart, are_of_one_row, assigned_column, changes_for, changes_with, column_of_part, columns_meet, columns_read, condition_columns, conflict, is_equality, is_key_equality, is_one_key, keys_of_part, may_delete, meets, named_columns, over_keys, part_accesses, read_part, reads_from, rows_meet, statement_accesses, stays, updates_one_row}
 pub use Rattle.sdd_robust_laws.specs.Runs.{FirstWins, InTurn, IsCounterexample, IsSnapshotRun, change_one_item, ended_since, succeeds}
 pub use Rattle.sdd_robust_laws.specs.Shown.{AreLinked, IsBeside, IsDangerous, IsShownRobust}

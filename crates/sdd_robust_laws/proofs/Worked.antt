@@ -3,7 +3,7 @@ use Rattle.sdd_robust_laws.proofs.All.{Access, AreLinked, Bool, Contains, Contai
 use Rattle.sdd_robust_laws.specs.Shown.AreLinked.{further, itself}
 use Rattle.sdd_robust_laws.specs.AccessExamples.{changes_of, of_skew, reads_of}
 use Rattle.sdd_robust_laws.specs.RunExamples.{adds, at_once, skew, skew_effects, skew_is_run, text, two_rows}
-use Rattle.sdd_order.specs.Examples.{crossing}
+use Rattle.sdd_laws.specs.links.Examples.{crossing}
 
 -- numbers that are 1 or 2
 

@@ -6,7 +6,7 @@ use Rattle.sdd_lang.specs.declared.assign.Assign.TheVariants.{Add}
 use Rattle.sdd_lang.specs.declared.statement.Stmt.{Stmt}
 use Rattle.sdd_lang.specs.declared.statement.Stmt.TheVariants.{Delete, Query, Update}
 use Rattle.sdd_lang.specs.declared.transaction.Txn.{Txn}
-use Rattle.sdd_order.specs.Examples.{crossing}
+use Rattle.sdd_laws.specs.links.Examples.{crossing}
 use Rattle.sdd_robust_laws.specs.Accesses.{accesses, are_apart, are_of_one_row, changes_for, conflict, reads_from, stays}
 use Rattle.sdd_robust_laws.specs.RunExamples.{adds, asks, key_is, puts, skew, text, two_rows}
 use Rattle.sdd_robust_laws.specs.declared.access.Access.{Access}

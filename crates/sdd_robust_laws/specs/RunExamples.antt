@@ -10,7 +10,7 @@ use Rattle.sdd_lang.specs.declared.effect.Effect.{Effect}
 use Rattle.sdd_lang.specs.declared.statement.Stmt.{Stmt}
 use Rattle.sdd_lang.specs.declared.statement.Stmt.TheVariants.{Put, Query, Update}
 use Rattle.sdd_lang.specs.declared.transaction.Txn.{Txn}
-use Rattle.sdd_order.specs.Examples.{crossing, row_of}
+use Rattle.sdd_laws.specs.links.Examples.{crossing, row_of}
 use Rattle.sdd_snapshot_replay.specs.Logs.{Log, database}
 use Rattle.sdd_snapshot_replay.specs.Logs.Step.{begins, ends}
 use Rattle.sdd_robust_laws.specs.Runs.{IsSnapshotRun, change_one_item, ended_since}

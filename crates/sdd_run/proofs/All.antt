@@ -41,7 +41,7 @@ pub use Rattle.sdd_obligations.proofs.logs.Steps.{none_any_base}
 pub use Rattle.sdd_obligations.proofs.logs.Ticking.{first_none}
 pub use Rattle.sdd_obligations.proofs.net.Lists.{All-at}
 pub use Rattle.sdd_obligations.proofs.protocol.Laws.{one_table}
-pub use Rattle.sdd_obligations.proofs.serial_orders.Places.{same_start}
+pub use Rattle.sdd_obligations.proofs.links.Places.{same_start}
 pub use Rattle.sdd_obligations.proofs.serial_orders.Serial.{serial_order_is}
 pub use Rattle.sdd_obligations.proofs.Conditions.{AllWithin, act_within}
 pub use Rattle.sdd_obligations.proofs.invariants.AreReadSteps.{class_in_view}
@@ -67,10 +67,10 @@ pub use Rattle.sdd_obligations.specs.logs.Due.{home_of}
 pub use Rattle.sdd_obligations.specs.logs.Marks.{from_event}
 pub use Rattle.sdd_obligations.specs.logs.Traffic.{turned_by}
 pub use Rattle.sdd_obligations.specs.protocol.declared.entry.Entry.{Entry}
-pub use Rattle.sdd_obligations.specs.serial_orders.Attempts.{Attempt}
+pub use Rattle.sdd_obligations.specs.links.Attempts.{Attempt}
 pub use Rattle.sdd_obligations.specs.serial_orders.Orders.{IsAlong}
-pub use Rattle.sdd_obligations.specs.serial_orders.Places.{record_at}
-pub use Rattle.sdd_obligations.specs.serial_orders.Precedence.{precedes}
+pub use Rattle.sdd_obligations.specs.links.Places.{record_at}
+pub use Rattle.sdd_obligations.specs.links.Precedence.{precedes}
 pub use Rattle.sdd_obligations.specs.serial_orders.SerialOrder.{serial_order}
 pub use Rattle.sdd_obligations.specs.tm.State.{class_of}
 pub use Rattle.sdd_obligations.specs.umod.Views.{tm_of}
@@ -154,14 +154,14 @@ pub use Rattle.sdd_script.proofs.lang.catalog.Validity.{not_false}
 pub use Rattle.sdd_script.specs.All.{AreDistinct, FitsAssign, FitsTxn, HoldsValues, IsFrom1To, IsLink, IsSite, IsValid, IsValidEvent, IsValidRow, IsValidTxn, IsValue, Value, eras, extended, retired, submitted_by, tail_of, whole}
 pub use Rattle.sdd_script.specs.declared.workload.Workload.{Workload}
 pub use Rattle.sdd_schedule.proofs.world.Results.{of_ok}
-pub use Rattle.sdd_schedule.specs.world.AtSites.{standing_at}
-pub use Rattle.sdd_schedule.specs.world.Beginnings.{AllBegin, BeginsD, IsBegun, There}
+pub use Rattle.sdd_schedule.specs.world.sites.AtSites.{standing_at}
+pub use Rattle.sdd_schedule.specs.world.sites.Beginnings.{AllBegin, BeginsD, IsBegun, There}
 pub use Rattle.sdd_schedule.specs.world.Copies.{rows_left, table_of, tables_at, tables_of}
 pub use Rattle.sdd_schedule.specs.world.LastHomes.{AreAtLastHomes, all_at_last, last_home, pending_at_last}
 pub use Rattle.sdd_schedule.specs.world.Pending.{IsListed, commits, pending_as, pending_in, pending_of, status_at, submitted_at, unmet, wait_at, wait_for, waits_of, why_at, why_of, why_pending}
 pub use Rattle.sdd_schedule.specs.Schedules.{AreAllowed, lists_after, takes_rounds, with_events}
 pub use Rattle.sdd_schedule.specs.world.Represents.{EndsBy, Represents}
-pub use Rattle.sdd_schedule.specs.world.Standings.{standing_at_t, standing_at_u}
+pub use Rattle.sdd_schedule.specs.world.sites.Standings.{standing_at_t, standing_at_u}
 pub use Rattle.sdd_schedule.specs.declared.schedule.ClassList.{ClassList}
 pub use Rattle.sdd_schedule.specs.world.declared.world.World.{World}
 pub use Rattle.std.proofs.Common.{All, Bool, Contains, IfOk, List, None, Option, Result, Some, [], ap, append-nil, append_assoc, arith, cond, count_by, drop, eq-eqb, eqb-true, false, filter, filter_map, find, flat_map, fold, if◌then◌else◌, inl, inr, is_none, is_some, le-leb, length, length-append, lt-ltb, map, min, nat_le, nat_lt, ne_eqb, not, option_map, position, refl, slice_get, slice_index_or as get_or, subst, suc, sym, take, take_all, true, zero, ℕ, ◌&&◌, ◌++◌, ◌+◌, ◌-◌, ◌<◌, ◌^◌, ◌==◌, ◌∙◌, ◌∷◌, ◌≡◌, ◌≢◌, ◌≤◌, ◌⊎◌}

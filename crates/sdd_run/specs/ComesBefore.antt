@@ -5,7 +5,7 @@ use Rattle.sdd_obligations.specs.base.Numbers.{class_no, txn_no}
 use Rattle.sdd_obligations.specs.base.declared.number.TxnNo.{TxnNo}
 use Rattle.sdd_obligations.specs.history.Records.{History}
 use Rattle.sdd_obligations.specs.laws.Deeds.{IsSubmitted}
-use Rattle.sdd_obligations.specs.serial_orders.Attempts.{Committed}
+use Rattle.sdd_obligations.specs.links.Attempts.{Committed}
 use Rattle.sdd_report.specs.declared.pending.Pending.{Pending}
 use Rattle.sdd_report.specs.declared.pending.Why.TheVariants.{Queued}
 

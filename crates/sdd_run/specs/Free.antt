@@ -6,8 +6,8 @@ use Rattle.sdd_obligations.specs.base.declared.number.DmNo.{DmNo}
 use Rattle.sdd_obligations.specs.base.declared.number.TxnNo.{TxnNo}
 use Rattle.sdd_obligations.specs.history.Records.{History}
 use Rattle.sdd_obligations.specs.history.declared.record.Rec.TheVariants.{Answer, Reject, Wait}
-use Rattle.sdd_obligations.specs.serial_orders.Attempts.{Attempt}
-use Rattle.sdd_obligations.specs.serial_orders.Places.{IsRecordAt, event_at}
+use Rattle.sdd_obligations.specs.links.Attempts.{Attempt}
+use Rattle.sdd_obligations.specs.links.Places.{IsRecordAt, event_at}
 
 -- no module lets the attempt wait, and none rejects it
 pub record IsUndisturbed (h : History) (a : Attempt) : Type 0 where

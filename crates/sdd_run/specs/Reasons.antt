@@ -18,7 +18,7 @@ use Rattle.sdd_obligations.specs.laws.Deeds.{IsSubmitted}
 use Rattle.sdd_obligations.specs.logs.Entries.{Input, Log, history}
 use Rattle.sdd_obligations.specs.logs.Locals.{local_of, setting_of}
 use Rattle.sdd_obligations.specs.pipe.Pipe.{head, passed}
-use Rattle.sdd_obligations.specs.serial_orders.Numbers.{IsClass, IsFrom1To, IsModule}
+use Rattle.sdd_obligations.specs.links.Numbers.{IsClass, IsFrom1To, IsModule}
 use Rattle.sdd_obligations.specs.umod.Views.{TmCounts, counts, last_served}
 use Rattle.sdd_obligations.specs.wire.declared.msg.Msg.TheVariants.{Read}
 use Rattle.sdd_progress.specs.Committed.{WasCommitted}

@@ -18,8 +18,9 @@ use Rattle.sdd_obligations.specs.logs.Lawful.{EndsByLimit, IsTheLog}
 use Rattle.sdd_obligations.specs.logs.Resting.{Rests}
 use Rattle.sdd_obligations.specs.protocol.Protocols.{IsTable}
 use Rattle.sdd_obligations.specs.protocol.declared.entry.Entry.{Entry}
-use Rattle.sdd_obligations.specs.serial_orders.Attempts.{Attempt, Committed, IsAttempt, IsCommitted}
-use Rattle.sdd_obligations.specs.serial_orders.Orders.{IsOrderable, IsSerial}
+use Rattle.sdd_obligations.specs.links.Attempts.{Attempt, Committed, IsAttempt, IsCommitted}
+use Rattle.sdd_obligations.specs.links.Orderable.{IsOrderable}
+use Rattle.sdd_obligations.specs.serial_orders.Orders.{IsSerial}
 use Rattle.sdd_obligations.specs.serial_orders.SerialOrder.{serial_order}
 use Rattle.sdd_obligations.specs.site_module.SiteLog.{Era}
 use Rattle.sdd_progress.specs.Committed.{AllCommitted}

@@ -13,7 +13,7 @@ use Rattle.sdd_obligations.specs.laws.Deeds.{IsSubmitted}
 use Rattle.sdd_obligations.specs.logs.Entries.{Input, Log}
 use Rattle.sdd_obligations.specs.logs.Traffic.{all_links, calls_of, is_down}
 use Rattle.sdd_obligations.specs.net.Links.{quiet}
-use Rattle.sdd_obligations.specs.serial_orders.Examples.{crossing}
+use Rattle.sdd_obligations.specs.links.Examples.{crossing}
 use Rattle.sdd_progress.specs.Committed.{AllCommitted}
 use Rattle.sdd_report.specs.Report.{Report}
 use Rattle.sdd_report.specs.declared.pending.Pending.{Pending}

@@ -1,7 +1,7 @@
 //! What holds of every run of a workload, reported or not.
 ghost use Rattle.std.specs.Prelude.{ℕ, ◌≡◌, ◌≤◌, ◌++◌, ◌∷◌, ◌⊎◌, List, None};
 ghost use Rattle.sdd_obligations.specs.All.{AreSubmittedOnce, Catalogue, ClassNo, Cond, D, DmNo, FitsInput, Hand, Input, IsLawful, IsPermitted, IsSoundCatalogue, IsTheLog, Log, Read, Site, Ts, TxnNo, Use, history, local_of, marks, setting_of, site_due};
-ghost use Rattle.sdd_schedule.specs.world.Standings.{standing_of};
+ghost use Rattle.sdd_schedule.specs.world.sites.Standings.{standing_of};
 ghost use Rattle.sdd_run.specs.Standings.{IsStanding};
 ghost use Rattle.sdd_progress.specs.Free.{IsFreeClass};
 ghost use Rattle.sdd_run.specs.Free.{IsAnsweredWithin};

@@ -1,5 +1,5 @@
 -- The names of std, of the crates below and of this crate's definitions that its proofs cite. Declares nothing.
-pub use Rattle.sdd_world.proofs.Failing.{handed_on}
+pub use Rattle.sdd_world.proofs.sites.Failing.{handed_on}
 pub use Rattle.sdd_world.proofs.Rounds.{few, free, rests_more as rests_given, round_before, round_ends, single}
 pub use Rattle.sdd_world.proofs.attempts.Noting.{any_result as all_ok}
 pub use Rattle.sdd_world.proofs.needs.logs.AsLists.{left_is_ahead}
@@ -10,7 +10,7 @@ pub use Rattle.sdd_world.proofs.needs.logs.One.{IsBefore, one_chain}
 pub use Rattle.sdd_world.proofs.needs.logs.Rounding.{no_events_quiet}
 pub use Rattle.sdd_world.proofs.needs.net.Queues.{no_items}
 pub use Rattle.sdd_world.specs.Represents.{EndsBy, IsNextList, Represents, Rounding, Settling, events_of}
-pub use Rattle.sdd_world.specs.declared.ends.WorldEnd.{WorldEnd}
+pub use Rattle.sdd_world.specs.sites.declared.ends.WorldEnd.{WorldEnd}
 pub use Rattle.sdd_world.specs.declared.world.World.{World}
 pub use Rattle.sdd_world.specs.needs.All.{Does, Event, Hand, Input, IsGood, IsLawful, IsPossible, Log, Mark, Notes, Redeclare, Redeclares, Rests, Round, Settle, Submitted, TakesRounds, Up, after_mark, all_links, calls_of, greatest_bound, left, marks, next, quiet, round, with_event}
 pub use Rattle.sdd_world.specs.needs.base.Words.{tail_of}

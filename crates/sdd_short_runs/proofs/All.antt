@@ -3,7 +3,7 @@ pub use Rattle.sdd_lang.proofs.base.Membership.{Contains-cases, Contains-here, C
 pub use Rattle.sdd_lang.specs.All.{Catalogue, Change, Database, FitsTxn, IsDatabase, Kept, Reply, after_changes, changed_by, contains, effect, item_cmp, item_of, serial}
 pub use Rattle.sdd_lang.specs.declared.effect.Effect.{Effect}
 pub use Rattle.sdd_lang.specs.declared.transaction.Txn.{Txn}
-pub use Rattle.sdd_order.proofs.Members.{Contains-filter, Contains-from_filter}
+pub use Rattle.sdd_links.proofs.Members.{Contains-filter, Contains-from_filter}
 pub use Rattle.sdd_robust.specs.Changing.{misses_by, misses_one}
 pub use Rattle.sdd_robust.specs.Members.{lent}
 pub use Rattle.sdd_robust.specs.Pivots.{may_miss}

@@ -3,7 +3,7 @@ use Rattle.std.specs.Prelude.{ℕ, ◌≡◌, pos, Bool, true, false, not, List,
 use Rattle.sdd_lang.specs.All.{Int, Reply, Rows}
 use Rattle.sdd_lang.specs.declared.effect.Effect.{Effect}
 use Rattle.sdd_lang.specs.declared.transaction.Txn.{Txn}
-use Rattle.sdd_order.specs.Examples.{crossing}
+use Rattle.sdd_links.specs.Examples.{crossing}
 use Rattle.sdd_snapshot_replay.specs.Logs.Step.{begins, ends}
 use Rattle.sdd_robust_laws.specs.RunExamples.{adds, reader, shows, skew, text, two_rows}
 use Rattle.sdd_robust_laws.specs.Runs.{change_one_item}

@@ -26,6 +26,9 @@ pub use Rattle.sdd_laws.proofs.Fragments.{rows_agree}
 pub use Rattle.sdd_laws.proofs.LookUps.{same_members}
 pub use Rattle.sdd_laws.proofs.Members.{Contains-filter, Contains-from_filter, all_have, is_in}
 pub use Rattle.sdd_laws.proofs.Steps.{at_start, one_more}
+pub use Rattle.sdd_laws.proofs.links.Members.{Contains-range, member_passes, passes_member}
+pub use Rattle.sdd_laws.proofs.links.Ready.{ready_for}
+pub use Rattle.sdd_laws.proofs.links.Taken.{IsAlongBy, taken_along, taken_is, taken_whole}
 pub use Rattle.sdd_laws.specs.Committed.{all_dated, entries_of}
 pub use Rattle.sdd_laws.specs.Ledger.{Ledger, Reads, writers}
 pub use Rattle.sdd_laws.specs.Order.{MayComeFirst, Meets, may_come_first}
@@ -34,11 +37,8 @@ pub use Rattle.sdd_laws.specs.Replayed.{ChangesOf, HasValues}
 pub use Rattle.sdd_laws.specs.Values.{AreWriters, IsPlaced}
 pub use Rattle.sdd_laws.specs.declared.meeting.Meeting.{Meeting}
 pub use Rattle.sdd_laws.specs.declared.meeting.Meeting.TheVariants.{ReadWrite, WriteRead}
-pub use Rattle.sdd_order.proofs.Members.{Contains-range, member_passes, passes_member}
-pub use Rattle.sdd_order.proofs.Ready.{ready_for}
-pub use Rattle.sdd_order.proofs.Taken.{IsAlongBy, taken_along, taken_is, taken_whole}
-pub use Rattle.sdd_order.specs.Paths.{IsOrderly, IsPath}
-pub use Rattle.sdd_order.specs.Taken.{taken}
+pub use Rattle.sdd_laws.specs.links.Paths.{IsOrderly, IsPath}
+pub use Rattle.sdd_laws.specs.links.Taken.{taken}
 pub use Rattle.sdd_protocol.specs.Protocols.{IsTable}
 pub use Rattle.sdd_protocol.specs.declared.entry.Entry.{Entry}
 pub use Rattle.sdd_snapshot_replay.specs.Logs.{IsOfClass, Log, SeesSnapshots, Step, begin_of, begun, database, end_of, ended, run_of}
@@ -47,8 +47,7 @@ pub use Rattle.sdd_snapshot_replay.specs.Replays.{EachOnce, IsReplay, SnapshotsR
 pub use Rattle.sdd_snapshots.proofs.Theorems.{snapshots_by_table}
 pub use Rattle.sdd_snapshots.specs.Runs.{system_of, tests_of}
 pub use Rattle.sdd_snapshots.specs.Thirds.{HasNoP3}
-pub use Rattle.std.proofs.Common.{All, Bool, Contains, List, [], ap, arith, cond, eq-eqb, eqb-true, false, inl, inr, length, lt-ltb, map, nat_lt, ne_eqb, not, refl, subst, suc, sym, true, ℕ, ◌&&◌, ◌+◌, ◌-◌, ◌<◌, ◌==◌, ◌||◌, ◌∙◌, ◌∷◌, ◌≡◌, ◌≢◌, ◌≤◌, ◌⊎◌}
-pub use Rattle.std.proofs.Common.{ltb-false, ltb-true}
+pub use Rattle.std.proofs.Common.{All, Bool, Contains, List, [], ap, arith, cond, eq-eqb, eqb-true, false, inl, inr, length, lt-ltb, map, nat_lt, ne_eqb, not, refl, subst, suc, sym, true, ℕ, ◌&&◌, ◌+◌, ◌-◌, ◌<◌, ◌==◌, ◌||◌, ◌∙◌, ◌∷◌, ◌≡◌, ◌≢◌, ◌≤◌, ◌⊎◌, ltb-false, ltb-true}
 pub use Rattle.std.proofs.lemmas.Bool.{and_from, and_parts, cases_Bool, cases_eq, eqb-false, false≢true, not-true, or_cases, or_left, or_right}
 pub use Rattle.std.proofs.lemmas.Bool.Decides.{nat_tests}
 pub use Rattle.std.proofs.lemmas.List.Elements.{All-contains, All-from_recursion, recursion_from_All}

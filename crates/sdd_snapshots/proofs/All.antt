@@ -12,7 +12,7 @@ pub use Rattle.sdd_graph.specs.Edges.{IsClassOf}
 pub use Rattle.sdd_graph.specs.Graph.{conflict_graph}
 pub use Rattle.sdd_graph.specs.declared.edge.Edge.{Edge}
 pub use Rattle.sdd_graph.specs.declared.edge.Edge.TheVariants.{Diagonal}
-pub use Rattle.sdd_order.specs.Paths.{IsOrderly}
+pub use Rattle.sdd_links.specs.Paths.{IsOrderly}
 pub use Rattle.sdd_protocol.proofs.Tables.{all_at, blocks_of, edges_of, first_block-vertical, vertical_block-lists}
 pub use Rattle.sdd_protocol.specs.Protocols.{IsTable, diagonal_protocol, protocol_in, same_protocol, vertical_block}
 pub use Rattle.sdd_protocol.specs.declared.entry.Entry.{Entry}
@@ -22,8 +22,7 @@ pub use Rattle.sdd_snapshots.specs.Examples.{overlapping, read_beside, reader_ta
 pub use Rattle.sdd_snapshots.specs.Runs.{HasSessions, SnapshotRun, system_of, tests_of}
 pub use Rattle.sdd_snapshots.specs.Theorems.{SnapshotsByTable, SnapshotsLeaveNoCycle}
 pub use Rattle.sdd_snapshots.specs.Thirds.{AsksForNoP3, HasNoP3}
-pub use Rattle.std.proofs.Common.{Bool, List, Some, [], ap, arith, cond, false, inl, inr, is_some, length, length-append, lt-ltb, map, option_map, refl, slice_get, slice_index, slice_index_or as get_or, subst, suc, sym, true, zero, ℕ, ◌-◌, ◌<◌, ◌==◌, ◌||◌, ◌∷◌, ◌≡◌, ◌≢◌, ◌≤◌, ◌⊎◌, ◌∙◌}
-pub use Rattle.std.proofs.Common.{ltb-true}
+pub use Rattle.std.proofs.Common.{Bool, List, Some, [], ap, arith, cond, false, inl, inr, is_some, length, length-append, lt-ltb, map, option_map, refl, slice_get, slice_index, slice_index_or as get_or, subst, suc, sym, true, zero, ℕ, ◌-◌, ◌<◌, ◌==◌, ◌||◌, ◌∷◌, ◌≡◌, ◌≢◌, ◌≤◌, ◌⊎◌, ◌∙◌, ltb-true}
 pub use Rattle.std.proofs.lemmas.Bool.{and_parts}
 pub use Rattle.std.proofs.lemmas.Bool.Decides.{nat_tests}
 pub use Rattle.std.proofs.lemmas.List.{get_or-map, length-map}

@@ -4,7 +4,7 @@ use Rattle.sdd_blocks.specs.Blocks.{AreBlocks}
 use Rattle.sdd_catalog.specs.Catalogue.{Catalogue}
 use Rattle.sdd_graph.specs.Graph.{ends}
 use Rattle.sdd_graph.specs.declared.edge.Edge.{Edge}
-use Rattle.sdd_order.specs.Paths.{IsOrderly}
+use Rattle.sdd_links.specs.Paths.{IsOrderly}
 use Rattle.sdd_protocol.specs.Protocols.{IsTable}
 use Rattle.sdd_protocol.specs.declared.entry.Entry.{Entry}
 use Rattle.sdd_acyclic.specs.Fits.{FitsSystem}

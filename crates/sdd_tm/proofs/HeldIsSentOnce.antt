@@ -2,7 +2,7 @@
 use Rattle.sdd_tm.proofs.All.{Act, AllByRecursion, AreSettled, Bases, Bool, Did, Held, IsAmid, List, Log, Msg, None, Notes, Question, Sends, Setting, Some, State, Ticking, U, [], active, after_held, and_parts, ap, arith, asks, asks_acted, asks_of, bound_of, class_of, class_view, clock, false, held_due, held_of, holds, if◌then◌else◌, is_idle, is_none, le-ltb, line_apart, list_all, ltb-true, map, map_same, nat_lt, ne_eqb, next, on_hold, open_did, queue, refl, runs, sent_apart, served_sent, stamped_did, state_of, suc, sym, time_at, true, view_of, with_act, with_due_act, ℕ, ◌&&◌, ◌<◌, ◌==◌, ◌∙◌, ◌∷◌, ◌≡◌, ◌≢◌}
 use Rattle.sdd_tm.proofs.OpenAsks.{without_hand}
 use Rattle.sdd_tm.proofs.Dues.{held_is_due}
-use Rattle.sdd_rules.specs.tm.Views as views
+use Rattle.sdd_asks.specs.rules.tm.Views as views
 
 -- whether all classes are idle, of the log and of what is kept of it
 idle_alike : (s : Setting) (log : Log) (cs : List ℕ) → list_all views.is_idle (map (class_view s log) cs) ≡ list_all is_idle (map (class_of s log) cs)

@@ -1,10 +1,10 @@
 -- What becomes of what a module keeps when a message is handed to it, or a transaction is given to it.
 use Rattle.std.specs.Prelude.{ℕ, ◌+◌, ◌==◌, Bool, true, false, if◌then◌else◌, List, [], ◌∷◌, ◌++◌, map, length, Option, Some, None}
 use Rattle.std.specs.List.{position}
-use Rattle.sdd_rules.specs.All.{Ask, ClassNo, Held, Hold, Msg, Ready, Reduced, Reject, Release, Rows, Site, Txn, Values, active_handed, pushed_by}
-use Rattle.sdd_rules.specs.declared.asked.Asked.{Asked}
+use Rattle.sdd_asks.specs.rules.All.{Ask, ClassNo, Held, Hold, Msg, Ready, Reduced, Reject, Release, Rows, Site, Txn, Values, active_handed, pushed_by}
+use Rattle.sdd_asks.specs.rules.declared.asked.Asked.{Asked}
 use Rattle.sdd_tm.specs.declared.places.Places.{Places}
-use Rattle.sdd_rules.specs.tm.State.{ClassState, State}
+use Rattle.sdd_asks.specs.rules.tm.State.{ClassState, State}
 
 -- a message
 

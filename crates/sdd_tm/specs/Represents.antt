@@ -1,13 +1,13 @@
 -- Which logs a transaction module represents, and what holds between the acts of a call.
 use Rattle.std.specs.Prelude.{ℕ, suc, ◌+◌, ◌<◌, ◌≤◌, ◌^◌, ◌≡◌, ◌≢◌, IsTrue, List, [], ◌∷◌, slice_get, Some, None}
 use Rattle.sdd_attempt.specs.All.{AreStamped, IsLineOf, IsServed}
-use Rattle.sdd_rules.specs.All.{Bases, IsDatabase, IsWhole, Kept, Log, Setting, active, current_era, starts_left}
+use Rattle.sdd_asks.specs.rules.All.{Bases, IsDatabase, IsWhole, Kept, Log, Setting, active, current_era, starts_left}
 use Rattle.sdd_attempt.specs.catalog.Rules as catalogues
 use Rattle.sdd_eras.specs.EraOf.{IsEraOf}
-use Rattle.sdd_rules.specs.tm.Views.{HoldCounts, holds, runs}
-use Rattle.sdd_rules.specs.tm.State.{ClassState, State, state_of}
+use Rattle.sdd_asks.specs.rules.tm.Views.{HoldCounts, holds, runs}
+use Rattle.sdd_asks.specs.rules.tm.State.{ClassState, State, state_of}
 use Rattle.sdd_tm.specs.Steps.{own_step, start_step, class_step, held_of}
-use Rattle.sdd_rules.specs.tm.OpenAsks.{AreOpen}
+use Rattle.sdd_asks.specs.rules.tm.OpenAsks.{AreOpen}
 
 -- every log of the site
 

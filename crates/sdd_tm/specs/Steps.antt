@@ -1,26 +1,22 @@
 -- What the classes of a transaction module do next by themselves, and what becomes of them.
-use Rattle.std.specs.Prelude.{ℕ, nat_le, Bool, true, false, not, ◌&&◌, cond, if◌then◌else◌, List, [], ◌∷◌, is_none, slice_set, Option, Some, None, option_map}
+use Rattle.std.specs.Prelude.{ℕ, Bool, false, not, ◌&&◌, if◌then◌else◌, List, is_none, slice_set, Option, Some, None, option_map}
 use Rattle.std.specs.List.{list_any, list_all, find}
-use Rattle.sdd_rules.specs.All.{Act, Attempt, Bases, Held, Line, Null, Sends, Ticking, U, bound_of, class_no, is_empty, or_else, time_at}
+use Rattle.sdd_asks.specs.rules.All.{Act, Attempt, Bases, Held, Line, Null, Sends, Ticking, U, bound_of, class_no, is_empty, or_else, time_at}
 use Rattle.sdd_attempt.specs.All.{clock_done, commit_next, line_done, line_step, send_next, start_next}
 use Rattle.sdd_attempt.specs.protocol.declared.entry.Entry as line
 use Rattle.sdd_attempt.specs.running.declared.step.LineStep.{LineStep}
 use Rattle.sdd_attempt.specs.running.declared.step.LineStep.TheVariants.{Sends as ToSend, Commits as ToCommit}
-use Rattle.sdd_rules.specs.declared.asked.Asked.{Asked}
+use Rattle.sdd_asks.specs.Asks.{answers, time_by, without_first}
+use Rattle.sdd_asks.specs.rules.declared.asked.Asked.{Asked}
 use Rattle.sdd_tm.specs.declared.step.Step.{Step}
 use Rattle.sdd_tm.specs.declared.step.Step.TheVariants.{Send, Commit, Answer, Start}
-use Rattle.sdd_rules.specs.tm.State.{ClassState, State}
+use Rattle.sdd_asks.specs.rules.tm.State.{ClassState, State}
 
 -- the next step of a class
 
 -- the timestamp of an active attempt
 abbrev pub stamp_of : Option Attempt → Option ℕ
 stamp_of a = option_map (λ x. x.ts) a
-
--- an idle class can answer every ASK, an active one those for times up to its timestamp
-abbrev pub answers : Option ℕ → Asked → Bool
-answers None ask = true
-answers (Some ts) ask = nat_le ask.time.0 ts
 
 abbrev pub can_answer : Option Attempt → Asked → Bool
 can_answer a ask = answers (stamp_of a) ask
@@ -49,11 +45,7 @@ step_at on_hold (Some k) = class_step on_hold k
 
 -- the act that a step makes; the number of the hand that it answers, which isn't kept, is left out
 
--- the time of a NULL: of an idle class the clock's bound, else the attempt's timestamp
-abbrev pub time_by : Ticking → Option ℕ → ℕ
-time_by clock None = bound_of clock
-time_by clock (Some ts) = ts
-
+-- the time of the NULL that a class sends
 abbrev pub answer_time : Ticking → Option Attempt → ℕ
 answer_time clock a = time_by clock (stamp_of a)
 
@@ -68,11 +60,6 @@ act_of bases table clock k Answer = answer_to clock k.line (find (can_answer k.l
 act_of bases table clock k Start = start_next table clock k.line
 
 -- what becomes of a class
-
--- without the first that passes
-abbrev pub without_first : {A : Type 0} → (A → Bool) → List A → List A
-without_first p [] = []
-without_first p (x ∷ xs) = cond (p x) xs (x ∷ without_first p xs)
 
 abbrev pub asks_done : Step → Option Attempt → List Asked → List Asked
 asks_done Answer a asks = without_first (can_answer a) asks

@@ -1,9 +1,9 @@
 -- What the calls of a transaction module promise of their parts.
 use Rattle.std.specs.Prelude.{ℕ, ◌==◌, false, List, [], ◌∷◌, map, filter, length}
-use Rattle.sdd_rules.specs.All.{Bases, Catalogue, Era, Log, Notes, Reached, Setting, at_zero, class_at, numbers_to}
+use Rattle.sdd_asks.specs.rules.All.{Bases, Catalogue, Era, Log, Notes, Reached, Setting, at_zero, class_at, numbers_to}
 use Rattle.sdd_attempt.specs.All.{no_line}
-use Rattle.sdd_rules.specs.tm.Due.{next}
-use Rattle.sdd_rules.specs.tm.State.{ClassState, State}
+use Rattle.sdd_asks.specs.rules.tm.Due.{next}
+use Rattle.sdd_asks.specs.rules.tm.State.{ClassState, State}
 use Rattle.sdd_tm.specs.Represents.{IsAmid}
 
 -- From one state acts were made to another, each of which was due, and this is what was noted for them: by whatever log

@@ -1,18 +1,19 @@
-ghost use Rattle.std.specs.Prelude.{◌≡◌, ◌≢◌, ◌≤◌, ◌<◌, ◌+◌, ◌^◌, ◌++◌, ◌∷◌, ℕ, [], map, length, false, IfOk, OnOk, IsTrue, Some, None, option_map};
-ghost use Rattle.std.specs.List.{list_any, find, position};
+ghost use Rattle.std.specs.Prelude.{◌≡◌, ◌≢◌, ◌≤◌, ◌<◌, ◌+◌, ◌^◌, ◌++◌, ◌∷◌, ℕ, [], map, length, false, IfOk, OnOk, IsTrue, Some, None};
+ghost use Rattle.std.specs.List.{list_any, find};
 ghost use Rattle.sdd_attempt.specs.All.{AreTried, IsAwaited, ServesAt, clock_done};
-ghost use Rattle.sdd_rules.specs.All.{Bases, FitsTxn, IsDatabase, Queued, contains, standing_of, with_due_act};
+ghost use Rattle.sdd_asks.specs.rules.All.{Bases, FitsTxn, IsDatabase, Queued, contains, standing_of, with_due_act};
 ghost use Rattle.sdd_tm.specs.Handing.{class_handed};
-ghost use Rattle.sdd_tm.specs.Steps.{is_idle, answers, can_answer, time_by, answer_to, class_step, act_of, class_done, without_first};
+ghost use Rattle.sdd_asks.specs.Asks.{without_first};
+ghost use Rattle.sdd_tm.specs.Steps.{is_idle, can_answer, answer_to, class_step, act_of, class_done};
 ghost use Rattle.sdd_tm.specs.Works.{first_class, classes_of};
 ghost use Rattle.sdd_tm.specs.declared.step.Step.TheVariants.{Commit, Start};
 
 use crate::step::Step;
+use sdd_asks::{Asked, answer_time, answers, take_first};
 use sdd_attempt::{
     Catalogue, ClassNo, Clock, Draft, Line, LineStep, Msg, NoMemory, Site, Standing, Table, TmNo,
-    Ts, Txn, TxnNo,
+    Txn, TxnNo,
 };
-use sdd_rules::Asked;
 use std::alloc::Global;
 use std::collections::VecDeque;
 use std::marker::Model;
@@ -26,7 +27,7 @@ pub struct ClassRun<'a> {
 }
 
 impl<'a> Model for ClassRun<'a> {
-    ghost use Rattle.sdd_rules.specs.tm.State.{ClassState};
+    ghost use Rattle.sdd_asks.specs.rules.tm.State.{ClassState};
 
     ghost Value = { ClassState };
 
@@ -201,41 +202,4 @@ pub(crate) fn first_classes<'a>(
         }
     }
     Ok(runs)
-}
-
-/// Takes away the first ASK that can be answered, where the active attempt has this timestamp or
-/// no attempt is active.
-fn take_first(asks: &mut VecDeque<Asked>, active: Option<Ts>) -> Option<Asked>
-    ensures taken { result ≡ find (answers (option_map (λ t. t.0) active)) asks.old.items }
-    ensures left { asks.new.items ≡ without_first (answers (option_map (λ t. t.0) active)) asks.old.items }
-{
-    match first_place(asks, active) {
-        None => None,
-        Some(place) => asks.remove(place),
-    }
-}
-
-fn first_place(asks: &VecDeque<Asked>, active: Option<Ts>) -> Option<usize>
-    ensures { result ≡ position (answers (option_map (λ t. t.0) active)) asks.now.items }
-{
-    asks.iter().position(|ask| answers(active, ask))
-}
-
-fn answers(active: Option<Ts>, ask: &Asked) -> bool
-    ensures { result ≡ answers (option_map (λ t. t.0) active) ask.now }
-{
-    match active {
-        None => true,
-        Some(ts) => ask.time.0 <= ts.0,
-    }
-}
-
-/// The time of a NULL: the clock's bound, where no attempt is active.
-fn answer_time(clock: &Clock, active: Option<Ts>) -> Ts
-    ensures { result.0 ≡ time_by clock.now (option_map (λ t. t.0) active) }
-{
-    match active {
-        None => clock.bound(),
-        Some(ts) => ts,
-    }
 }

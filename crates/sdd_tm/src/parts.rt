@@ -1,10 +1,10 @@
 ghost use Rattle.std.specs.Prelude.{◌≡◌, ◌≤◌, ◌<◌, ◌+◌, ◌/◌, ◌^◌, ℕ, map, length, slice_get, ◌==◌, IfOk, IfSome, OnOk, Some, None};
 ghost use Rattle.std.specs.List.{list_all};
 ghost use Rattle.sdd_attempt.specs.All.{AreTried, IsAwaited, ServesAt};
-ghost use Rattle.sdd_rules.specs.All.{Bases, IsDatabase, Log, Setting, bound_of, nothing_noted, pushed, standing_among, ticked, with_due_act};
-ghost use Rattle.sdd_rules.specs.tm.Fits.{fits, FitsSubmit};
+ghost use Rattle.sdd_asks.specs.rules.All.{Bases, IsDatabase, Log, Setting, bound_of, nothing_noted, pushed, standing_among, ticked, with_due_act};
+ghost use Rattle.sdd_asks.specs.rules.tm.Fits.{fits, FitsSubmit};
 ghost use Rattle.sdd_tm.specs.Handing.{push_of, with_hold_message, class_handed, state_handed, state_given, class_named, place_of, one_place, every_place, all_places, touched};
-ghost use Rattle.sdd_rules.specs.tm.State.{ClassState};
+ghost use Rattle.sdd_asks.specs.rules.tm.State.{ClassState};
 ghost use Rattle.sdd_tm.specs.Represents.{AreApart, AreSettled, IsKept, IsAmid, IsCalm};
 ghost use Rattle.sdd_tm.specs.Steps.{is_idle, step_at, act_of, state_done, held_of, after_held};
 ghost use Rattle.sdd_tm.specs.Works.{Works, first_state};
@@ -34,7 +34,7 @@ pub(crate) struct Parts<'a> {
 }
 
 impl<'a> Model for Parts<'a> {
-    ghost use Rattle.sdd_rules.specs.tm.State.{State};
+    ghost use Rattle.sdd_asks.specs.rules.tm.State.{State};
 
     ghost Value = { State };
 

@@ -1,10 +1,10 @@
 ghost use Rattle.std.specs.Prelude.{◌≡◌, ◌∷◌, [], ◌+◌, ◌/◌, ◌<◌, ◌^◌, List, map, IfOk, OnErr, IsTrue};
-ghost use Rattle.sdd_rules.specs.All.{Bases, Does, FitsSite, Log, Rec as Record, Redeclared, Setting, Submits, T, Ticked, bound_of, class_for, clock, current_era, standing_among};
+ghost use Rattle.sdd_asks.specs.rules.All.{Bases, Does, FitsSite, Log, Rec as Record, Redeclared, Setting, Submits, T, Ticked, bound_of, class_for, clock, current_era, standing_among};
 ghost use Rattle.sdd_attempt.specs.history.declared.record.Rec.TheVariants.{Submit};
 ghost use Rattle.sdd_eras.specs.EraOf.{IsEraOf};
-ghost use Rattle.sdd_rules.specs.tm.Due.{next};
-ghost use Rattle.sdd_rules.specs.tm.Fits.{fits, FitsSubmit};
-ghost use Rattle.sdd_rules.specs.tm.State.{ClassState};
+ghost use Rattle.sdd_asks.specs.rules.tm.Due.{next};
+ghost use Rattle.sdd_asks.specs.rules.tm.Fits.{fits, FitsSubmit};
+ghost use Rattle.sdd_asks.specs.rules.tm.State.{ClassState};
 ghost use Rattle.sdd_tm.specs.Represents.{Queues, Represents};
 
 use crate::class_run::ClassRun;
@@ -24,8 +24,8 @@ pub struct TxnModule<'a> {
 }
 
 impl<'a> Model for TxnModule<'a> {
-    ghost use Rattle.sdd_rules.specs.All.{Kept};
-    ghost use Rattle.sdd_rules.specs.tm.State.{State};
+    ghost use Rattle.sdd_asks.specs.rules.All.{Kept};
+    ghost use Rattle.sdd_asks.specs.rules.tm.State.{State};
 
     ghost Value = { Kept State };
 

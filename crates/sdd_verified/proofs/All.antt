@@ -15,7 +15,7 @@ pub use Rattle.sdd_obligations.proofs.laws.Recorded.{are_recorded, ledger}
 pub use Rattle.sdd_obligations.proofs.laws.Run.{replayed}
 pub use Rattle.sdd_obligations.proofs.laws.lang.Sets.{each_filtered as kept_hold}
 pub use Rattle.sdd_obligations.proofs.laws.serial_orders.InOrder.{each as at_each}
-pub use Rattle.sdd_obligations.proofs.laws.serial_orders.Members.{All-members as all_members}
+pub use Rattle.sdd_obligations.proofs.laws.links.Members.{All-members as all_members}
 pub use Rattle.sdd_obligations.proofs.logs.AsLists.{next_mark_is}
 pub use Rattle.sdd_obligations.proofs.logs.NewMarks.{lawful_permitted, left_is, marked}
 pub use Rattle.sdd_obligations.proofs.net.Lists.{All-at}
@@ -63,7 +63,8 @@ pub use Rattle.sdd_verify.proofs.NumbersOfNames.{IsThere, member_at, name_in}
 pub use Rattle.sdd_verify.proofs.OrderWords.{behind_spaces}
 pub use Rattle.sdd_verify.proofs.Submissions.{found_member}
 pub use Rattle.sdd_verify.proofs.VerifiedReports.{name_line, verified_yes}
-pub use Rattle.sdd_verify.specs.Classes.{class_of, classes_from, classes_submitted, era_at, redeclared}
+pub use Rattle.sdd_verify.specs.Classes.{classes_from, classes_submitted, era_at, redeclared}
+pub use Rattle.sdd_turns.specs.Turns.{class_of}
 pub use Rattle.sdd_verify.specs.Lines.{is_order_line, lines_of, tells_reply}
 pub use Rattle.sdd_verify.specs.Replies.{replies, serial_replies}
 pub use Rattle.sdd_verify.specs.Submitted.{submitted, submitted_by, texts_of, txn_of}
@@ -119,9 +120,9 @@ pub use Rattle.sdd_run.specs.report.declared.pending.Why.{Why}
 pub use Rattle.sdd_run.specs.report.declared.pending.Why.TheVariants.{Queued, Underway, Waits}
 pub use Rattle.sdd_run.specs.script.Valid.{AssignsValue, HoldsValues, IsValid, IsValidEvent, IsValidRow, IsValidTxn, IsValue}
 pub use Rattle.sdd_run.specs.script.declared.workload.Workload.{Workload}
-pub use Rattle.sdd_run.specs.world.AtSites.{standing_at}
+pub use Rattle.sdd_run.specs.world.sites.AtSites.{standing_at}
 pub use Rattle.sdd_run.specs.world.Copies.{tables_of}
-pub use Rattle.sdd_run.specs.world.Standings.{standing_at_t, standing_at_u}
+pub use Rattle.sdd_run.specs.world.sites.Standings.{standing_at_t, standing_at_u}
 pub use Rattle.sdd_words.proofs.Spelled.{cut_again}
 pub use Rattle.sdd_words.proofs.Splits.{scan_again}
 pub use Rattle.sdd_words.specs.Lines.{AreLines, HasNoNewline, cut_lines, spelled_lines}

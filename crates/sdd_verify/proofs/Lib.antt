@@ -11,6 +11,5 @@ pub mod NumbersOfNames
 pub mod OrderWords
 pub mod RepliesPassed
 pub mod Submissions
-pub mod Turns
 pub mod VerifiedReports
 pub mod WordsCut

@@ -1,6 +1,6 @@
 -- The classes of the submitted transactions of a workload: each by the catalogue that is in force at its submission.
-use Rattle.std.specs.Prelude.{ℕ, ◌+◌, ◌-◌, List, [], ◌∷◌, ◌++◌, Option, Some, None, slice_index_or}
-use Rattle.sdd_script.specs.All.{Catalogue, Event, Redeclare, Txn, TxnNo, class_for}
+use Rattle.std.specs.Prelude.{ℕ, ◌+◌, List, [], ◌∷◌, ◌++◌, Option, Some, None, slice_index_or}
+use Rattle.sdd_script.specs.All.{Catalogue, Event, Redeclare, Txn, class_for}
 use Rattle.sdd_lists.specs.InForce.{eras_in}
 use Rattle.sdd_script.specs.declared.workload.Workload.{Workload}
 use Rattle.sdd_verify.specs.Submitted.{submitted_by}
@@ -28,7 +28,3 @@ classes_from era txns n (event ∷ events) =
 -- the class of each submitted transaction, in order of submission
 abbrev pub classes_submitted : Catalogue → Workload → List ℕ
 classes_submitted cat work = classes_from (era_at cat (eras_in cat work)) work.txns 0 work.events
-
--- the class of a submitted transaction by its place among them, counted from 1
-abbrev pub class_of : List ℕ → TxnNo → ℕ
-class_of classes number = slice_index_or classes (number.0 - 1) 0

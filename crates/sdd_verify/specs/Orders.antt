@@ -1,25 +1,9 @@
 -- Orders of submitted transactions.
-use Rattle.std.specs.Prelude.{ℕ, nat_lt, ◌==◌, ◌&&◌, ◌||◌, not, Bool, true, List, [], ◌∷◌, Option, Some, None, Result, Ok}
-use Rattle.std.specs.List.{list_all, slice_split}
+use Rattle.std.specs.Prelude.{ℕ, ◌==◌, List, [], ◌∷◌, Result, Ok}
+use Rattle.std.specs.List.{slice_split}
 use Rattle.sdd_script.specs.All.{Txn, TxnNo, along, must, require, tail_of, ◌>>=◌}
-use Rattle.sdd_verify.specs.Classes.{class_of}
+use Rattle.sdd_turns.specs.Turns.{is_in_turn}
 use Rattle.sdd_verify.specs.Submitted.{named}
-
--- whether a transaction may stand somewhere after another, of the classes of submitted transactions: it is another one, and
--- where it has the other's class it was submitted later
-abbrev pub may_follow : List ℕ → TxnNo → TxnNo → Bool
-may_follow classes first later =
-    not (first.0 == later.0) && (not (class_of classes first == class_of classes later) || nat_lt first.0 later.0)
-
--- whether each transaction of an order may stand after all that stand before it
-abbrev pub is_in_turn : List ℕ → List TxnNo → Bool
-is_in_turn classes [] = true
-is_in_turn classes (first ∷ order) = list_all (may_follow classes first) order && is_in_turn classes order
-
--- whether a number may stand after the last one of its class
-abbrev pub allows : Option ℕ → ℕ → Bool
-allows None number = true
-allows (Some last) number = nat_lt last number
 
 -- the words of a line, cut at each space
 abbrev pub words_of : List ℕ → List (List ℕ)

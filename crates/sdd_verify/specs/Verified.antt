@@ -4,7 +4,8 @@ use Rattle.std.specs.List.{All}
 use Rattle.sdd_script.specs.All.{AreLines, Catalogue, HasNoNewline, IsFrom1To, TxnNo, spelled_lines}
 use Rattle.sdd_report.specs.Committed.{order_line}
 use Rattle.sdd_script.specs.declared.workload.Workload.{Workload}
-use Rattle.sdd_verify.specs.Classes.{class_of, classes_submitted}
+use Rattle.sdd_turns.specs.Turns.{class_of}
+use Rattle.sdd_verify.specs.Classes.{classes_submitted}
 use Rattle.sdd_verify.specs.Lines.{is_order_line, tells_reply}
 use Rattle.sdd_verify.specs.Replies.{serial_replies}
 use Rattle.sdd_verify.specs.Submitted.{submitted}

@@ -1,18 +1,16 @@
 //! The order that an order line gives.
-ghost use Rattle.std.specs.Prelude.{◌≡◌, ◌==◌, ◌≤◌, ◌∷◌, length, IfOk};
+ghost use Rattle.std.specs.Prelude.{◌≡◌, ◌==◌, ◌≤◌, ◌∷◌, length};
 ghost use Rattle.std.specs.List.{position};
-ghost use Rattle.std.specs.Option.{option_copied};
 ghost use Rattle.sdd_script.specs.All.{GivesReading, along, require};
-ghost use Rattle.sdd_verify.specs.Classes.{class_of};
 ghost use Rattle.sdd_verify.specs.Flaws.{line_in};
-ghost use Rattle.sdd_verify.specs.Orders.{allows, is_in_turn, names_on, order_on, words_behind, words_of};
+ghost use Rattle.sdd_verify.specs.Orders.{names_on, order_on, words_behind, words_of};
 ghost use Rattle.sdd_verify.specs.Submitted.{named};
 
 use crate::flaw::{Flaw, must, require};
 use crate::submitted::Submitted;
-use sdd_script::{NoMemory, TxnNo};
+use sdd_script::TxnNo;
+use sdd_turns::is_in_turn;
 use std::alloc::Global;
-use std::collections::BTreeMap;
 
 /// Where the first space is.
 fn space_in(text: &[u8]) -> Option<usize>
@@ -74,43 +72,6 @@ fn named_on(
 {
     let (_, names) = cut_word(line);
     numbers_in(alloc, submitted, number, names)
-}
-
-/// The class of a submitted transaction; a number past the last has class 0.
-fn class_of(classes: &[u32], number: TxnNo) -> u32
-    ensures { result ≡ class_of classes.now number }
-{
-    let place = (number.0 as usize).saturating_sub(1);
-    match classes.get(place) {
-        Some(class) => *class,
-        None => 0,
-    }
-}
-
-/// Whether a transaction may stand after the last one of its class.
-fn may_come_after(last: Option<&u32>, number: TxnNo) -> bool
-    ensures { result ≡ allows (option_copied last.entry) number.0 }
-{
-    match last {
-        Some(last) => *last < number.0,
-        None => true,
-    }
-}
-
-/// Whether each transaction of an order may stand after those before it: none stands twice, and those of
-/// one class stand by submission. Costs a logarithmic step for each.
-fn is_in_turn(alloc: Global, classes: &[u32], order: &[TxnNo]) -> Result<bool, NoMemory>
-    ensures { IfOk result (λ is. is ≡ is_in_turn classes.now order.now) }
-{
-    let mut last: BTreeMap<u32, u32> = BTreeMap::new(alloc);
-    'order: for number in order {
-        let class = class_of(classes, *number);
-        if !may_come_after(last.get(&class), *number) {
-            return Ok(false);
-        }
-        last.insert(class, number.0)?;
-    }
-    Ok(true)
 }
 
 /// The order that the order line with this number gives.

@@ -38,6 +38,7 @@ pub use Rattle.sdd_obligations.proofs.invariants.Processed.{and_false}
 pub use Rattle.sdd_obligations.proofs.invariants.Sent.{sent_is}
 pub use Rattle.sdd_obligations.proofs.invariants.Sites.{site_is, site_self}
 pub use Rattle.sdd_obligations.proofs.invariants.logs.dm.ByClass.{filter_same}
+pub use Rattle.sdd_obligations.proofs.links.Reading.{is_eq_nat, same_pair}
 pub use Rattle.sdd_obligations.proofs.logs.Delivering.{ack_same}
 pub use Rattle.sdd_obligations.proofs.logs.Handing.{delivered_puts}
 pub use Rattle.sdd_obligations.proofs.logs.Links.{delivered_deliver, delivered_lose, delivered_repeat, delivered_resend}
@@ -51,7 +52,6 @@ pub use Rattle.sdd_obligations.proofs.net.Directions.{link_back}
 pub use Rattle.sdd_obligations.proofs.net.Lists.{All-at, get-append as in_left}
 pub use Rattle.sdd_obligations.proofs.net.SiteLists.{all_links_more, links_no, links_yes, sites_more}
 pub use Rattle.sdd_obligations.proofs.net.Sound.{sound}
-pub use Rattle.sdd_obligations.proofs.serial_orders.Reading.{is_eq_nat, same_pair}
 pub use Rattle.sdd_obligations.proofs.tm.Lists.{of_map as in_mapped}
 pub use Rattle.sdd_obligations.specs.All.{Ack, Act, Apply, Attempt, Call, Catalogue, Change, Class, ClassNo, ClassState, ClassView, Commit, Cond, D, Deliver, Did, DmNo, Does, Done, Down, Entry, Event, FitsStart, FragNo, Fragment, Hand, History, Input, IsClassHere, IsEraOf, IsGood, IsLawful, IsLinkOf, IsPermitted, IsPossible, IsServedClass, IsSiteOf, IsSoundCatalogue, IsTable, IsTheLog, IsWhole, Kept, Link, Log, Lose, MAX_DMS, MAX_TMS, Mark, Message, Msg, Notes, Null, Packet, Pipe, Puts, Queued, Read, Rec, Records, Redeclare, Redeclared, Redeclares, Repeat, Represent, Resend, Rests, Round, Sends, Setting, Settle, Site, Start, Submit, Submitted, T, TakesRounds, Tick, Ticked, TmNo, Ts, Txn, TxnNo, U, Up, View, Write, after_mark, all_links, all_of, are_linked, arrives, asks, base_of, bound_of, calls_of, class_at, class_for, class_in, class_no, clock, dated, deliver, delivered, dm_no, does_at, given_by, goes_through, greatest_bound, handed, hands_from, has_copy, head, head_of, history, holds, holds_back, home, is_down, is_empty, is_here, is_link, is_met, is_site, left, link, link_of, links, local_of, lose, mark_due, mark_from, mark_of, marks, newly_delivered, next, next_at, next_in, next_mark, note_if, nth_era, numbers_to, or_zero, packet_as, packet_at, pipe, puts, puts_to, quiet, redeclares, rel_no, repeat, resend, round, runs, same_site, sends_of_act, sent, setting_of, site_due, sites, spelled, takes_part as takes_at, time_at, time_of, tm_no, tried, turned, txn_at, txn_no, view_of, waits, with_event, with_packet, with_submit, without_packet}
 pub use Rattle.sdd_obligations.specs.attempt.Line.{Line}
@@ -66,6 +66,7 @@ pub use Rattle.sdd_obligations.specs.dm.Views.{class_view}
 pub use Rattle.sdd_obligations.specs.history.declared.record.Rec.TheVariants.{Submit as Submission}
 pub use Rattle.sdd_obligations.specs.invariants.Steps.{changes_at}
 pub use Rattle.sdd_obligations.specs.lang.Fits.{FitsTxn}
+pub use Rattle.sdd_obligations.specs.links.Finding.{pair_cmp}
 pub use Rattle.sdd_obligations.specs.logs.Due.{home_of as site_of}
 pub use Rattle.sdd_obligations.specs.net.Links.{Way, numbered, put, unacked, with_message, without_at}
 pub use Rattle.sdd_obligations.specs.net.Nets.{place_of}
@@ -73,7 +74,6 @@ pub use Rattle.sdd_obligations.specs.net.Sound.{IsOf, IsSoundWay}
 pub use Rattle.sdd_obligations.specs.pipe.Digest.{Digest, IsDigest, passed_with}
 pub use Rattle.sdd_obligations.specs.pipe.Pipe.{greatest}
 pub use Rattle.sdd_obligations.specs.pipe.Pipes.{pipe_at}
-pub use Rattle.sdd_obligations.specs.serial_orders.Finding.{pair_cmp}
 pub use Rattle.sdd_obligations.specs.tm.State.{asked, class_of}
 pub use Rattle.sdd_run.proofs.Beginning.{all_given}
 pub use Rattle.sdd_run.proofs.ErasWithTables.{first_era, some_table, tables_are}
@@ -91,7 +91,7 @@ pub use Rattle.sdd_run.proofs.progress.lawful.Touched.{copy_module}
 pub use Rattle.sdd_run.proofs.schedule.EachEvent.{IsMarkedBetween, MarksNext, marked_between, marks_above, one_more_mark}
 pub use Rattle.sdd_run.proofs.schedule.GivenMore.{round_more, scheduled_more}
 pub use Rattle.sdd_run.proofs.txn_module.Queueing.{represents_queues}
-pub use Rattle.sdd_run.proofs.world.Failing.{handed_on}
+pub use Rattle.sdd_run.proofs.world.sites.Failing.{handed_on}
 pub use Rattle.sdd_run.proofs.world.HomesExist.{no_txn, txn_read}
 pub use Rattle.sdd_run.proofs.world.Lists.{kept_to}
 pub use Rattle.sdd_run.proofs.world.Results.{after_ok}
@@ -113,13 +113,13 @@ pub use Rattle.sdd_run.specs.schedule.declared.turn.Turn.{Turn}
 pub use Rattle.sdd_run.specs.script.All.{IsValid}
 pub use Rattle.sdd_run.specs.script.declared.workload.Workload.{Workload}
 pub use Rattle.sdd_run.specs.txn_module.Represents.{Queues}
-pub use Rattle.sdd_run.specs.world.Beginnings.{AllBegin, BeginsD, IsBegun}
+pub use Rattle.sdd_run.specs.world.sites.Beginnings.{AllBegin, BeginsD, IsBegun}
 pub use Rattle.sdd_run.specs.world.Copies.{tables_of}
-pub use Rattle.sdd_run.specs.world.Modules.{AllRepresent, LivesD, LivesT}
+pub use Rattle.sdd_run.specs.world.sites.Modules.{AllRepresent, LivesD, LivesT}
 pub use Rattle.sdd_run.specs.world.Pending.{commits}
 pub use Rattle.sdd_run.specs.world.Represents.{Calm, Represents}
-pub use Rattle.sdd_run.specs.world.declared.ends.WorldEnd.{WorldEnd}
-pub use Rattle.sdd_run.specs.world.declared.sites.Sites.{Sites}
+pub use Rattle.sdd_run.specs.world.sites.declared.ends.WorldEnd.{WorldEnd}
+pub use Rattle.sdd_run.specs.world.sites.declared.sites.Sites.{Sites}
 pub use Rattle.sdd_run.specs.world.declared.world.World.{World}
 pub use Rattle.sdd_watch.specs.Awaiting.{behind, number_for, purpose_of, purposed, purposed_above, up_to, waiting_on}
 pub use Rattle.sdd_watch.specs.Happens.{applied_by, applied_in, arrived_by, arrived_of, changes_applied, changes_of, committed_by, committed_in, concerns, found_by, happened_at, have_moved, if_in_round, is_of_item, is_of_queue, is_reached, last_event, lost_by, place_in, place_of_first, report_row, round_at, round_in, rounds, row_by, row_left, rows_of, scheduled_at, something_if, states_of, taken, takes_part, with_row}

@@ -4,7 +4,7 @@ use Rattle.sdd_watch.proofs.Came.{all_came, came_is, more_came, processed_is}
 use Rattle.sdd_watch.proofs.Between.{joined_more}
 use Rattle.sdd_watch.proofs.Reached.{neither}
 use Rattle.sdd_watch.proofs.Sourced.{source_there}
-use Rattle.sdd_run.specs.world.Modules.{Represent}
+use Rattle.sdd_run.specs.world.sites.Modules.{Represent}
 use Rattle.sdd_obligations.specs.pipe.Digest as digest
 use Rattle.sdd_obligations.specs.site_module.SiteLog as site
 

@@ -7,7 +7,7 @@ use Rattle.std.specs.List.{list_any, position}
 use Rattle.std.specs.Ordering.{nat_cmp}
 use Rattle.sdd_obligations.specs.All.{D, Deliver, Done, Down, Event, History, Input, IsLinkOf, Log, Lose, Message, Msg, Packet, Repeat, Resend, Site, U, Up, all_links, are_linked, class_no, dm_no, handed, history, is_down, is_empty, link_of, local_of, numbers_to, packet_at, pipe, same_site, sent, sites, time_at}
 use Rattle.sdd_obligations.specs.net.Links.{unacked}
-use Rattle.sdd_obligations.specs.serial_orders.Finding.{pair_cmp}
+use Rattle.sdd_obligations.specs.links.Finding.{pair_cmp}
 use Rattle.sdd_inside.specs.Differences.{is_of_link, takes_one}
 use Rattle.sdd_inside.specs.declared.delta.Found.{Found}
 use Rattle.sdd_inside.specs.declared.delta.Taken.{Taken}

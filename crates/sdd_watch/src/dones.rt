@@ -3,7 +3,7 @@ ghost use Rattle.std.specs.Prelude.{◌≡◌, ◌≤◌, ◌++◌, ◌∷◌, �
 ghost use Rattle.std.specs.BTreeSet.{contains};
 ghost use Rattle.std.specs.List.{list_any};
 ghost use Rattle.sdd_obligations.specs.All.{MAX_DMS, dm_no, numbers_to};
-ghost use Rattle.sdd_obligations.specs.serial_orders.Finding.{pair_cmp};
+ghost use Rattle.sdd_obligations.specs.links.Finding.{pair_cmp};
 ghost use Rattle.sdd_watch.specs.Looking.{says, says_one};
 
 use crate::waiting::Purpose;

@@ -1,7 +1,7 @@
 -- A world before its first event, over plain worlds.
 use Rattle.sdd_world.proofs.All.{AllRepresent, Carries, HasBoxes, Input, IsBelow, IsGood, IsPlaced, IsSoundNetwork, KeepsFor, List, Mailbox, Msg, None, Option, Represents, Site, Some, Spooled, U, World, [], ap, arith, empty_boxes, empty_mailbox, false, get_or as slice_index_or, kept_from, length, length-replicate, mailbox_at, next_at_first, nth_era, place_of, queue_at, refl, replicate, rests_at_first, subst, suc, sym, true, zero, ℕ, ◌+◌, ◌<◌, ◌∙◌, ◌≡◌}
 use Rattle.sdd_world.proofs.Placing.{is_placed, site_of}
-use Rattle.sdd_needs.specs.net.Mailboxes.{box_at}
+use Rattle.sdd_sites.specs.needs.net.Mailboxes.{box_at}
 
 nothing_at : {A : Type 0} (n k : ℕ) → slice_index_or (replicate {A = List A} n []) k [] ≡ []
 nothing_at (suc n) (suc k) = nothing_at n k

@@ -1,7 +1,7 @@
 -- A message is handed over, and its module does what is due, over plain worlds.
 use Rattle.sdd_world.proofs.All.{Act, All, AllLinked, AllRepresent, AreDue, AreLinked, Bases, Carries, EndsBy, Followed, Hand, HandedOn, Handing, Input, IsFirst, IsLawful, IsPast, IsSiteOf, List, Log, MaySend, Msg, Outcome, Rec, Represent, Setting, Site, Sites, Some, Spooled, StayAtOthers, TakesAway, U, World, [], after_acts, position_of, good_input, and_right, ap, base_of, calls_acts, calls_of, ends_in_acts, first_lawful, first_next, fits, handed, hands_first, history_acts, link_parts, linked_acts, local_of, log_after, map, marks, marks_acts, next, next_in, next_of, nth_era, other_hand, puts, puts_past, records_of, refl, remain_other, same_here, same_site, sends_of, setting_of, subst, suc, sym, true, ℕ, ◌++◌, ◌∙◌, ◌∷◌, ◌≡◌, ◌≤◌}
 use Rattle.sdd_world.proofs.Parting.{all_after, events_before, position_acts, redeclares_acts, spooled_acts, spooled_on}
-use Rattle.sdd_needs.specs.site_module.SiteLog as site
+use Rattle.sdd_sites.specs.needs.site_module.SiteLog as site
 
 pub due_same : (g : Input) (b : Site) (bases : Bases) (l : site.Log) (acts : List Act)
     → AreDue (next_of b (setting_of g b) bases) l acts → AreDue (next_in g b bases) l acts

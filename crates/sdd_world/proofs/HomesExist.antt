@@ -1,7 +1,7 @@
 -- The sites of modules and of transactions exist.
 use Rattle.sdd_world.proofs.All.{Bool, Catalogue, D, DmNo, Input, IsSiteOf, IsSoundNetwork, List, Log, None, Option, Some, T, TmNo, Txn, U, ap, class_for, false, get_or, home_of, if◌then◌else◌, is_site, last_home, length, nth_era, redeclares, refl, slice_get, slice_get-get_or, slice_get_past, subst, sym, true, txn_at, ℕ, ◌-◌, ◌<◌, ◌==◌, ◌∙◌, ◌≡◌, ◌≤◌}
 use Rattle.sdd_world.proofs.Placing.{in_range as within}
-use Rattle.sdd_needs.specs.lang.Fits.{FitsTxn}
+use Rattle.sdd_sites.specs.needs.lang.Fits.{FitsTxn}
 
 pub is_dm : (cat : Catalogue) (d : DmNo) → 1 ≤ d.0 → d.0 ≤ cat.dms → is_site cat.tms cat.dms (D d) ≡ true
 is_dm cat d low high = within d.0 cat.dms low high

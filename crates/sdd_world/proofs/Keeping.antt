@@ -3,7 +3,7 @@ use Rattle.sdd_world.proofs.All.{Boxes, Carries, Deliver, Happened, HasSenders, 
 use Rattle.sdd_world.proofs.Marking.{marked_plain, sites_marked}
 use Rattle.sdd_world.proofs.Parting.{spooled_on}
 use Rattle.sdd_world.proofs.Placing.{is_placed, is_sender, no_u, part_is, site_of}
-use Rattle.sdd_needs.specs.net.Mailboxes.{Puts}
+use Rattle.sdd_sites.specs.needs.net.Mailboxes.{Puts}
 
 -- a module has a mailbox
 pub placed : (g : Input) (log : Log) (boxes : Boxes Msg) (at busy : Site) → IsModuleOf g at → Spooled g log boxes busy → IsPlaced boxes at

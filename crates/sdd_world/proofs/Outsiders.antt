@@ -1,8 +1,8 @@
 -- No READ of a class that isn't the catalogue's waits at a data module.
 use Rattle.sdd_world.proofs.All.{Act, Bool, ClassView, D, Did, DmNo, Does, Fetch, Hand, Handed, Home, Input, IsDue, IsDueAt, IsLawful, Log, Mark, Msg, None, Null, Open, Option, Processes, Read, Records, Reduce, Refuses, Sends, Setting, Ship, Site, Some, Step, Submit, Submitted, Txn, View, Waits, Write, [], act_by, act_where, allowed_act, answer_of, answer_to, ap, arith, by_head, by_open, class_view, conds_of, dm_no, false, filter, head, head_of, head_step, in_mapped, if◌then◌else◌, is_asked_of, is_processing, is_wait, length, local_of, ne_eqb, next_allowed, numbers_to, option_map, range_with_len, pipe, refl, same_is, same_site, setting_of, slice_get, subst, suc, sym, true, txn_at, unmet, view_of, wait_at, wait_for, waiting_at, waits, waits_acted, waits_of, with_submit, zero, ℕ, ◌+◌, ◌<◌, ◌||◌, ◌∙◌, ◌∷◌, ◌≡◌}
 use Rattle.sdd_world.proofs.Lists.{none_chosen}
-use Rattle.sdd_needs.specs.All.{home_of}
-use Rattle.sdd_needs.specs.site_module.SiteLog as site
+use Rattle.sdd_sites.specs.needs.All.{home_of}
+use Rattle.sdd_sites.specs.needs.site_module.SiteLog as site
 
 -- an act doesn't change whether the head of a class waits
 abbrev Leaves : ℕ → Act → Type 0

@@ -1,6 +1,6 @@
 -- What the parts of a world represent, as the log goes on.
 use Rattle.sdd_world.proofs.All.{Act, All, All-append, All-cons, All-nil, All-weaker, AllRepresent, Bool, Boxes, Does, Event, Hand, History, Input, KeepsFor, List, Log, Mailbox, Mark, Msg, Position, Rec, Redeclares, Remain, Represent, Round, Setting, Site, Sites, Spooled, StayAtOthers, [], after_acts, ap, arith, false, history, is_down, is_down_acts, kept_from, left, left_acts, local_of, log_after, mailbox_at, map, marks, marks_acts, other_acts, own_acts, position_of, records_of_act, redeclares, refl, remain_acts, same_is, same_site, setting_of, subst, suc, sym, takes_part, takes_part_acts, true, ℕ, ◌++◌, ◌∙◌, ◌∷◌, ◌≡◌, ◌≤◌}
-use Rattle.sdd_needs.specs.site_module.SiteLog as site
+use Rattle.sdd_sites.specs.needs.site_module.SiteLog as site
 
 -- no record is of a later event than the last
 

@@ -3,9 +3,9 @@ use Rattle.sdd_world.proofs.All.{Act, All, AllRepresent, AreDue, AreLinked, At, 
 use Rattle.sdd_world.proofs.Handing.{are_linked, due_same}
 use Rattle.sdd_world.proofs.Parting.{all_after, events_before, later, position_acts, redeclares_acts, spooled_acts}
 use Rattle.sdd_world.proofs.Placing.{other_way, part_is, site_of}
-use Rattle.sdd_needs.specs.dm.Due as dm_due
-use Rattle.sdd_dm.specs.State as dm_state
-use Rattle.sdd_needs.specs.site_module.SiteLog as site
+use Rattle.sdd_sites.specs.needs.dm.Due as dm_due
+use Rattle.sdd_sites.specs.data_module.State as dm_state
+use Rattle.sdd_sites.specs.needs.site_module.SiteLog as site
 
 -- another site takes part as before
 others_part : (x at : Site) (log : Log) → same_site x at ≡ false → takes_part x (Mark (Up at) ∷ log) ≡ takes_part x log

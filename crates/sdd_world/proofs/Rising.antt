@@ -4,7 +4,7 @@ use Rattle.sdd_world.proofs.Keeping.{by_site, others_stay}
 use Rattle.sdd_world.proofs.Placing.{part_is}
 use Rattle.sdd_world.proofs.Senders.{first_taken}
 use Rattle.sdd_world.proofs.Turning.{parts_same, parts_spool}
-use Rattle.sdd_needs.specs.All.{Waits}
+use Rattle.sdd_sites.specs.needs.All.{Waits}
 
 pub boxed : (old mid new : Boxes Msg) (at : Site) → new ≡ mid → suc (kept_count (mailbox_at mid at)) ≡ kept_count (mailbox_at old at)
     → kept_count (mailbox_at new at) < kept_count (mailbox_at old at)

@@ -4,8 +4,8 @@ use Rattle.sdd_world.proofs.Handing.{are_linked, due_same}
 use Rattle.sdd_world.proofs.Marking.{happened}
 use Rattle.sdd_world.proofs.Parting.{all_after, events_before, later, redeclares_acts, spooled_acts, spooled_on}
 use Rattle.sdd_world.proofs.Placing.{is_module, no_u}
-use Rattle.sdd_needs.specs.lang.Fits.{FitsTxn}
-use Rattle.sdd_needs.specs.site_module.SiteLog as site
+use Rattle.sdd_sites.specs.needs.lang.Fits.{FitsTxn}
+use Rattle.sdd_sites.specs.needs.site_module.SiteLog as site
 
 -- what is read at a place of a list is the member there
 pub read_at : {A : Type 0} (xs : List A) (i : ℕ) (x y : A) → slice_get xs i ≡ Some x → y ≡ get_or xs i y → slice_get xs i ≡ Some y

@@ -2,7 +2,7 @@
 use Rattle.sdd_world.proofs.All.{AllRepresent, Bool, Boxes, Happened, Input, Log, Mark, Marked, Msg, Represent, Setting, Site, Sites, Spooled, StayAtOthers, T, Tick, Ticked, TmNo, U, World, [], false, fits_tick, good_input, handed_still, local_of, refl, rests_marked, same_here, same_site, setting_of, takes_part, ticked_none, ℕ, ◌∷◌, ◌≡◌}
 use Rattle.sdd_world.proofs.Marking.{happened}
 use Rattle.sdd_world.proofs.Parting.{all_after, spooled_on}
-use Rattle.sdd_needs.specs.site_module.SiteLog as site
+use Rattle.sdd_sites.specs.needs.site_module.SiteLog as site
 
 own_tick : (g : Input) (t : TmNo) (n : ℕ) (log : Log) → local_of g (T t) (Mark (Tick t n) ∷ log) ≡ Ticked n ∷ local_of g (T t) log
 own_tick g t n log = rw (same_here (T t)) refl

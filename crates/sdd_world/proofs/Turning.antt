@@ -4,8 +4,8 @@ use Rattle.sdd_world.proofs.Keeping.{by_site, down_of}
 use Rattle.sdd_world.proofs.Marking.{marked_noted, marked_plain, sites_marked}
 use Rattle.sdd_world.proofs.Parting.{keeps_on, represent_on}
 use Rattle.sdd_world.proofs.Placing.{no_u, other_way, part_is}
-use Rattle.sdd_needs.specs.site_module.SiteLog as site
-use Rattle.sdd_needs.specs.tm.State as tm_state
+use Rattle.sdd_sites.specs.needs.site_module.SiteLog as site
+use Rattle.sdd_sites.specs.needs.tm.State as tm_state
 
 -- which modules are down as one turns
 

@@ -1,8 +1,8 @@
 -- The copies that the log of a run leaves.
 use Rattle.std.specs.Prelude.{ℕ, List, map, filter, flat_map, length}
-use Rattle.sdd_needs.specs.All.{Catalogue, D, Input, Log, Row, contents, dated, dm_no, frag_no, has_copy, local_of, numbers_to, rows_in_fragment, setting_of}
-use Rattle.sdd_needs.specs.copy.Contents.{Dated}
-use Rattle.sdd_needs.specs.lang.Database.{Database, Item}
+use Rattle.sdd_sites.specs.needs.All.{Catalogue, D, Input, Log, Row, contents, dated, dm_no, frag_no, has_copy, local_of, numbers_to, rows_in_fragment, setting_of}
+use Rattle.sdd_sites.specs.needs.copy.Contents.{Dated}
+use Rattle.sdd_sites.specs.needs.lang.Database.{Database, Item}
 use Rattle.sdd_report.specs.declared.copies.CopyTable.{CopyTable}
 
 -- the rows of fragment f that changes leave at module d

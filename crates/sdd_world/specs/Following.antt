@@ -1,9 +1,9 @@
 -- What a module records and sends is put on the history and the network.
 use Rattle.std.specs.Prelude.{ℕ, ◌≡◌, true, false, List, ◌++◌, map}
-use Rattle.sdd_needs.specs.All.{Call, Msg, Outcome, Site, puts, puts_past}
+use Rattle.sdd_sites.specs.needs.All.{Call, Msg, Outcome, Site, puts, puts_past}
 use Rattle.sdd_world.specs.declared.world.World.{World}
-use Rattle.sdd_world.specs.Carries.{Carries, NetValue}
-use Rattle.sdd_world.specs.Kinds.{AreLinked}
+use Rattle.sdd_sites.specs.Carries.{Carries}
+use Rattle.sdd_sites.specs.Kinds.{AreLinked}
 
 -- it may be sent
 abbrev pub MaySend : World → Site → Outcome → Type 0
@@ -26,11 +26,3 @@ pub record Followed (old new : World) (at : Site) (outcome : Outcome) : Type 0 w
 abbrev pub IsPast : World → Site → Outcome → Type 0
 IsPast w at outcome = (tms dms : ℕ) (calls : List (Call Msg)) → Carries w.net tms dms calls
     → AreLinked tms dms at outcome.out → puts_past calls at outcome.out ≡ true
-
--- in the loop that sends: what was sent, and what is left
-pub record Sending (old now : NetValue) (at : Site) (out left : List (Site × Msg)) : Type 0 where
-  pub sent : List (Site × Msg)
-  pub parts : out ≡ sent ++ left
-  pub some : (tms : ℕ) × (dms : ℕ) × (calls : List (Call Msg)) × Carries old tms dms calls × AreLinked tms dms at out
-  pub so_far : (tms dms : ℕ) (calls : List (Call Msg)) → Carries old tms dms calls → AreLinked tms dms at out
-      → (puts_past calls at sent ≡ false) × Carries now tms dms (puts at sent calls)

@@ -4,9 +4,9 @@ use Rattle.std.specs.Prelude.{ℕ, ◌≡◌, false, if◌then◌else◌, List, 
 use Rattle.std.specs.BTreeSet.{BTreeSet, contains}
 use Rattle.std.specs.List.{list_any}
 use Rattle.std.specs.Ordering.{nat_cmp}
-use Rattle.sdd_needs.specs.All.{History, Input, IsSubmitted, Log, Rec, Site, history, nth_era, redeclares, txn_at}
-use Rattle.sdd_needs.specs.history.declared.record.Rec.TheVariants.{Submit}
-use Rattle.sdd_needs.specs.logs.Due.{home_of}
+use Rattle.sdd_sites.specs.needs.All.{History, Input, IsSubmitted, Log, Rec, Site, history, nth_era, redeclares, txn_at}
+use Rattle.sdd_sites.specs.needs.history.declared.record.Rec.TheVariants.{Submit}
+use Rattle.sdd_sites.specs.needs.logs.Due.{home_of}
 use Rattle.sdd_report.specs.declared.pending.Pending.{Pending}
 use Rattle.sdd_report.specs.declared.pending.Why.{Why}
 use Rattle.sdd_world.specs.Pending.{commits, pending_as, submitted_at, why_at}

@@ -1,18 +1,12 @@
-pub mod AtSites
-pub mod Beginnings
-pub mod Carries
-pub mod DueAt
 pub mod Following
-pub mod Kinds
-pub mod Modules
 pub mod Represents
-pub mod Standings
 pub mod Copies
 pub mod LastHomes
 pub mod Pending
-pub use Rattle.sdd_attempt.specs as attempts
-pub use Rattle.sdd_attempt.specs.exchange as exchange
-pub use Rattle.sdd_dm.specs as data_module
-pub use Rattle.sdd_tm.specs as txn_module
-pub use Rattle.sdd_umod.specs as u_module
-pub use Rattle.sdd_needs.specs as needs
+pub use Rattle.sdd_sites.specs as sites
+pub use Rattle.sdd_sites.specs.attempts as attempts
+pub use Rattle.sdd_sites.specs.exchange as exchange
+pub use Rattle.sdd_sites.specs.data_module as data_module
+pub use Rattle.sdd_sites.specs.txn_module as txn_module
+pub use Rattle.sdd_sites.specs.u_module as u_module
+pub use Rattle.sdd_sites.specs.needs as needs

@@ -2,17 +2,17 @@
 use Rattle.std.specs.Prelude.{ℕ, ◌==◌, ◌≡◌, Bool, false, not, if◌then◌else◌, List, [], ◌∷◌, filter_map, find, slice_get, Option, Some, None}
 use Rattle.std.specs.List.{list_any}
 use Rattle.std.specs.Option.{option_map}
-use Rattle.sdd_needs.specs.All.{Commit, Cond, D, Input, Log, Rec, Setting, Site, Standing, Submitted, TxnNo, U, dm_no, history, is_met, local_of, numbers_to, setting_of, view_of}
-use Rattle.sdd_needs.specs.history.declared.record.Rec.TheVariants.{Submit}
-use Rattle.sdd_needs.specs.site_module.SiteLog as site
-use Rattle.sdd_needs.specs.site_rules.declared.standing.Standing.TheVariants as standings
-use Rattle.sdd_needs.specs.dm.Waiting.{waiting_at}
+use Rattle.sdd_sites.specs.needs.All.{Commit, Cond, D, Input, Log, Rec, Setting, Site, Standing, Submitted, TxnNo, U, dm_no, history, is_met, local_of, numbers_to, setting_of, view_of}
+use Rattle.sdd_sites.specs.needs.history.declared.record.Rec.TheVariants.{Submit}
+use Rattle.sdd_sites.specs.needs.site_module.SiteLog as site
+use Rattle.sdd_sites.specs.needs.site_rules.declared.standing.Standing.TheVariants as standings
+use Rattle.sdd_sites.specs.needs.dm.Waiting.{waiting_at}
 use Rattle.sdd_report.specs.Pending.{under_way}
 use Rattle.sdd_report.specs.declared.pending.Pending.{Pending}
 use Rattle.sdd_report.specs.declared.pending.Waiting.{Waiting}
 use Rattle.sdd_report.specs.declared.pending.Why.{Why}
 use Rattle.sdd_report.specs.declared.pending.Why.TheVariants as reasons
-use Rattle.sdd_world.specs.Standings.{standing_of}
+use Rattle.sdd_sites.specs.Standings.{standing_of}
 
 -- what a READ waits for
 

@@ -1,10 +1,10 @@
 -- Which log a world represents, between events and within one.
 use Rattle.std.specs.Prelude.{ℕ, suc, ◌≤◌, ◌≡◌, true, false, List, [], ◌∷◌, ◌++◌, ◌+◌, length, Some, None}
-use Rattle.sdd_needs.specs.All.{AtEach, Boxes, Catalogue, Deliver, EndsByLimit, EndsIn, Era, Event, Input, IsGood, IsLinkOf, IsMarked, IsModuleOf, IsPossible, Log, MAX_DMS, MAX_TMS, Mailbox, Mark, Messages, Msg, Redeclares, Remain, Rests, Site, TakesRounds, Txn, U, Up, Waits, after_mark, all_links, calls_of, delivery, from_one, greatest_bound, history, is_down, is_link, kept_from, left, link_of, mailbox_at, marks, next, nth_era, quiet, redeclares, redeclares_in, same_site, txn_at}
-use Rattle.sdd_needs.specs.protocol.declared.entry.Entry.{Entry}
-use Rattle.sdd_needs.specs.lang.Fits.{FitsTxn}
-use Rattle.sdd_world.specs.Carries.{Carries}
-use Rattle.sdd_world.specs.Modules.{AllRepresent}
+use Rattle.sdd_sites.specs.needs.All.{AtEach, Boxes, Catalogue, Deliver, EndsByLimit, EndsIn, Era, Event, Input, IsGood, IsLinkOf, IsMarked, IsModuleOf, IsPossible, Log, MAX_DMS, MAX_TMS, Mailbox, Mark, Messages, Msg, Redeclares, Remain, Rests, Site, TakesRounds, Txn, U, Up, Waits, after_mark, all_links, calls_of, delivery, from_one, greatest_bound, history, is_down, is_link, kept_from, left, link_of, mailbox_at, marks, next, nth_era, quiet, redeclares, redeclares_in, same_site, txn_at}
+use Rattle.sdd_sites.specs.needs.protocol.declared.entry.Entry.{Entry}
+use Rattle.sdd_sites.specs.needs.lang.Fits.{FitsTxn}
+use Rattle.sdd_sites.specs.Carries.{Carries}
+use Rattle.sdd_sites.specs.Modules.{AllRepresent}
 use Rattle.sdd_world.specs.declared.world.World.{World}
 
 -- What is given is sound: the network isn't too large, and the transactions fit the catalogue.

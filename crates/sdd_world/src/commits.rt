@@ -2,7 +2,7 @@
 ghost use Rattle.std.specs.Prelude.{◌≡◌, ◌||◌, ℕ, IfOk, OnOk};
 ghost use Rattle.std.specs.BTreeSet.{contains};
 ghost use Rattle.std.specs.Ordering.{nat_cmp};
-ghost use Rattle.sdd_needs.specs.All.{History};
+ghost use Rattle.sdd_sites.specs.needs.All.{History};
 ghost use Rattle.sdd_world.specs.LastHomes.{AreCommitted};
 ghost use Rattle.sdd_world.specs.Pending.{commits};
 

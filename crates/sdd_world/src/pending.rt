@@ -1,6 +1,6 @@
 //! What is pending when a run ends.
 ghost use Rattle.std.specs.Prelude.{◌≡◌, ◌++◌, ◌∷◌, [], filter_map, IfOk, OnOk};
-ghost use Rattle.sdd_needs.specs.All.{History, Input, Log};
+ghost use Rattle.sdd_sites.specs.needs.All.{History, Input, Log};
 ghost use Rattle.sdd_world.specs.LastHomes.{AreCommitted, all_at_last, pending_at_last, why_at_last};
 ghost use Rattle.sdd_world.specs.Pending.{pending_as};
 ghost use Rattle.sdd_world.specs.Represents.{Represents};

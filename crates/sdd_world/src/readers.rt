@@ -1,27 +1,19 @@
 ghost use Rattle.std.specs.Prelude.{◌≡◌, ◌≤◌, [], ℕ, List, length, true, IfOk, IsTrue};
 ghost use Rattle.std.specs.Option.{option_copied};
-ghost use Rattle.sdd_needs.specs.All.{Call, D, Input, IsAwaited, IsEraOf, IsGood, IsLinkOf, IsModuleOf, IsSiteOf, Log, Msg, Represent, Site, T, U, all_links, calls_of, dated, handed, has_copy, history, is_down, is_here, local_of, marks, nth_era, number_of, quiet, redeclares, setting_of, takes_part};
-ghost use Rattle.sdd_world.specs.Beginnings.{IsBegun};
-ghost use Rattle.sdd_world.specs.Carries.{Carries};
-ghost use Rattle.sdd_world.specs.Modules.{AllRepresent, LivesD, LivesT, LivesU};
-ghost use Rattle.sdd_world.specs.Standings.{standing_of};
+ghost use Rattle.sdd_sites.specs.needs.All.{Call, D, Input, IsAwaited, IsEraOf, IsGood, IsLinkOf, IsModuleOf, IsSiteOf, Log, Msg, Represent, Site, T, U, all_links, calls_of, dated, handed, has_copy, history, is_down, is_here, local_of, marks, nth_era, number_of, quiet, redeclares, setting_of, takes_part};
+ghost use Rattle.sdd_sites.specs.Beginnings.{IsBegun};
+ghost use Rattle.sdd_sites.specs.Carries.{Carries};
+ghost use Rattle.sdd_sites.specs.Modules.{AllRepresent, LivesD, LivesT, LivesU};
+ghost use Rattle.sdd_sites.specs.Standings.{standing_of};
 ghost use Rattle.sdd_world.specs.Represents.{Calm, IsSoundNetwork, Represents};
 
-use crate::mail::Mail;
-use crate::making::txn_modules;
-use crate::sites::Sites;
 use crate::world::World;
-use sdd_attempt::Standing;
 use sdd_base::{ClassNo, Cond, DmNo, Event, Listed, NoMemory, Site, TmNo, Ts, TxnNo};
 use sdd_catalog::Catalogue;
-use sdd_copy::Copies;
-use sdd_dm::DataModule;
 use sdd_history::History;
 use sdd_lang::Txn;
 use sdd_net::{Net, Spool};
-use sdd_protocol::Table;
-use sdd_tm::TxnModule;
-use sdd_umod::UModule;
+use sdd_sites::{Copies, DataModule, Mail, Sites, Standing, Table, TxnModule, UModule};
 use sdd_wire::Spelling;
 use std::alloc::Global;
 
@@ -47,8 +39,7 @@ impl<'a> World<'a> {
             → IsBegun g whole.now catalogue.now table.now txns modules.items → Represents world g []) }
     {
         whole.law_is_sound();
-        let u = UModule::new(alloc, whole)?;
-        let tms = txn_modules(alloc, whole, catalogue, table)?;
+        let sites = Sites::new(alloc, whole, catalogue, table, modules)?;
         let net = Mail::new(alloc, whole.tms(), whole.dms())?;
         let spool = Spool::new(alloc, whole.tms(), whole.dms())?;
         Ok(World {
@@ -58,11 +49,7 @@ impl<'a> World<'a> {
             given: Vec::new(alloc),
             history: History::new(alloc),
             marks: 0,
-            sites: Sites {
-                u,
-                tms,
-                dms: modules,
-            },
+            sites,
             net,
             spool,
         })
@@ -102,7 +89,7 @@ impl<'a> World<'a> {
         ensures { (g : Input) (log : Log) → Represents self.now g log
             → LivesU result.now (setting_of g U) (local_of g U log) }
     {
-        &self.sites.u
+        self.sites.u_module()
     }
 
     /// A transaction module, lent. Takes no memory.

@@ -1,12 +1,11 @@
 //! Another class list is put in force in a world, once its links are quiet.
 ghost use Rattle.std.specs.Prelude.{IfOk, IsErrOf};
-ghost use Rattle.sdd_needs.specs.All.{Input, Log};
+ghost use Rattle.sdd_sites.specs.needs.All.{Input, Log};
 ghost use Rattle.sdd_world.specs.Represents.{EndsBy, Redeclaring, Represents};
 
-use crate::ends::WorldEnd;
 use crate::world::World;
 use sdd_catalog::Catalogue;
-use sdd_protocol::Table;
+use sdd_sites::{Table, WorldEnd};
 
 impl<'a> World<'a> {
     /// Puts a class list in force at all transaction modules, at the greatest bound of their

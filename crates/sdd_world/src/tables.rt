@@ -1,15 +1,15 @@
 //! The copies of data modules.
 ghost use Rattle.std.specs.Prelude.{◌≡◌, ◌≤◌, ◌++◌, ◌∷◌, [], ℕ, map, filter, length, true, IfOk, IsTrue, OnOk};
-ghost use Rattle.sdd_needs.specs.All.{D, Input, IsSiteOf, Log, Represent, contents, has_copy, is_here};
-ghost use Rattle.sdd_needs.specs.copy.Contents.{Dated};
+ghost use Rattle.sdd_sites.specs.needs.All.{D, Input, IsSiteOf, Log, Represent, contents, has_copy, is_here};
+ghost use Rattle.sdd_sites.specs.needs.copy.Contents.{Dated};
 ghost use Rattle.sdd_world.specs.Copies.{table_of, tables_in, tables_at, tables_of};
 ghost use Rattle.sdd_world.specs.Represents.{Represents};
 
 use crate::world::World;
 use sdd_base::{DmNo, FragNo, Listed, NoMemory, RowList};
 use sdd_catalog::Catalogue;
-use sdd_copy::Copies;
 use sdd_report::CopyTable;
+use sdd_sites::Copies;
 use std::alloc::Global;
 
 /// The rows of the copy of a fragment, ascending by key.

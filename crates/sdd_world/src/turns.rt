@@ -1,14 +1,13 @@
 //! Events, carried out one by one in place: those of a schedule, and those of the rounds of a settle
 //! or a redeclare.
 ghost use Rattle.std.specs.Prelude.{◌≡◌, ◌∷◌, List, suc, true, false, IfOk, OnOk, IsErrOf, MatchOption};
-ghost use Rattle.sdd_needs.specs.All.{Event as Happening, Input, IsGood, IsPossible, Log, Redeclare, Round, TakesRounds, all_links, calls_of, quiet, with_event};
+ghost use Rattle.sdd_sites.specs.needs.All.{Event as Happening, Input, IsGood, IsPossible, Log, Redeclare, Round, TakesRounds, all_links, calls_of, quiet, with_event};
 ghost use Rattle.sdd_world.specs.Represents.{EndsBy, IsNextList, IsSettled, Represents, Rounding, Settling, events_of};
 
-use crate::ends::WorldEnd;
 use crate::world::World;
 use sdd_base::{Event, NoMemory};
 use sdd_catalog::Catalogue;
-use sdd_protocol::Table;
+use sdd_sites::{Table, WorldEnd};
 
 impl<'a> World<'a> {
     /// Carries out an event, which is added to those that were given. It is no `Settle` and no

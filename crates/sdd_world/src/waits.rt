@@ -1,15 +1,14 @@
 //! Why a transaction is pending.
 ghost use Rattle.std.specs.Prelude.{◌≡◌, ◌≤◌, ◌++◌, ◌∷◌, [], ℕ, filter_map, length, IfOk, OnOk};
-ghost use Rattle.sdd_needs.specs.All.{D, Input, IsSiteOf, Log};
+ghost use Rattle.sdd_sites.specs.needs.All.{D, Input, IsSiteOf, Log};
 ghost use Rattle.sdd_world.specs.LastHomes.{last_home, why_at_last};
 ghost use Rattle.sdd_world.specs.Pending.{wait_at, waits_of, why_of};
 ghost use Rattle.sdd_world.specs.Represents.{Represents};
 
-use crate::homes::home;
 use crate::world::World;
-use sdd_attempt::Standing;
 use sdd_base::{ClassNo, DmNo, NoMemory, Site, Ts, TxnNo};
 use sdd_report::{Waiting, Why, under_way};
+use sdd_sites::{Standing, home};
 use std::alloc::Global;
 
 impl World<'_> {

@@ -1,19 +1,15 @@
 ghost use Rattle.std.specs.Prelude.{◌≡◌, ◌<◌, ◌≤◌, All, ◌++◌, [], ◌∷◌, true, ℕ, List, Some, IfOk, OnOk, IsErrOf};
-ghost use Rattle.sdd_needs.specs.All.{Deliver, Down, Event, Input, IsFirst, IsLinkOf, IsSiteOf, Log, Lose, Msg, Repeat, Resend, Settle, Site, Submit, TakesAway, Tick, U, Up, from_one, kept_from, mailbox_at, takes_part as takes_part_in};
+ghost use Rattle.sdd_sites.specs.needs.All.{Deliver, Down, Event, Input, IsFirst, IsLinkOf, IsSiteOf, Log, Lose, Msg, Repeat, Resend, Settle, Site, Submit, TakesAway, Tick, U, Up, from_one, kept_from, mailbox_at, takes_part as takes_part_in};
 ghost use Rattle.sdd_world.specs.declared.world.World.{World};
 ghost use Rattle.sdd_world.specs.Following.{MaySend, Followed, IsPast};
 ghost use Rattle.sdd_world.specs.Represents.{position_of, Arrives, Before, EndsBy, HandedOn, Handing, Happened, Keeping, Marked, Resumed, Resuming, Rising, Risen, Spooled};
 
-use crate::ends::WorldEnd;
-use crate::homes::home_in;
-use crate::mail::Mail;
-use crate::putting::{record_all, send_all};
-use crate::sites::Sites;
 use sdd_base::{Event, Listed, NoMemory, Site, TmNo, TxnNo};
 use sdd_catalog::Catalogue;
 use sdd_history::{History, Rec};
 use sdd_lang::{Txn, class_for};
 use sdd_net::{Delivered, Parcels, Spool};
+use sdd_sites::{Mail, Sites, WorldEnd, home_in, record_all, send_all};
 use sdd_wire::{Msg, Outcome};
 use std::collections::VecDeque;
 

@@ -1,7 +1,8 @@
 """Which of two committed transactions precedes the other, and the serial order.
 
 Again and again the transaction with the least timestamp is taken of those whose predecessors are all taken. Definition:
-crates/sdd_order/specs/Precedence.antt, SerialOrder.antt; docs/GUARANTEES.md, "Why there is a serial order".
+crates/sdd_links/specs/Precedence.antt, crates/sdd_order/specs/SerialOrder.antt; docs/GUARANTEES.md, "Why there is a
+serial order".
 """
 from typing import NamedTuple
 

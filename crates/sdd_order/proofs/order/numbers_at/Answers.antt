@@ -1,5 +1,5 @@
 use Rattle.sdd_order.proofs.All.{Committed, List, Option, TxnNo, [], ap, append-nil, cons_option, drop, get_or_default, numbers_at, option_map, slice_get, subst, sym, txn_no, ℕ, ◌++◌, ◌+◌, ◌∙◌, ◌≡◌}
-use Rattle.sdd_order.proofs.Numbered.{option_more}
+use Rattle.sdd_links.proofs.Numbered.{option_more}
 use Rattle.sdd_order.proofs.order.numbers_at.Goals.{in-Some+in_ok-push, in_default}
 use Rattle.sdd_order.proofs.order.numbers_at.Goals as goal
 

@@ -1,5 +1,5 @@
 use Rattle.std.proofs.Common.{Contains, arith, refl, subst}
-use Rattle.sdd_order.proofs.Members.{Contains-map}
+use Rattle.sdd_links.proofs.Members.{Contains-map}
 use Rattle.sdd_robust.specs.Members.{kinds, lent}
 use Rattle.sdd_robust.specs.declared.member.Member.{Member}
 use Rattle.sdd_robust.proofs.Steps.{lent_long, lent_there}

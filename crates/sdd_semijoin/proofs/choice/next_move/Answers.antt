@@ -1,3 +1,4 @@
+use Rattle.std.proofs.lemmas.Grind.{common_steps}
 use Rattle.std.proofs.Common.{arith, ◌+◌, ◌≡◌, ◌∙◌, ap, refl, filter, ◌∷◌, []}
 use Rattle.sdd_semijoin.specs.Choosing.{moves_from, best_after}
 use Rattle.sdd_semijoin.specs.Steps.{is_candidate, next_move}
@@ -18,3 +19,6 @@ loop-cond-preserved c =
       best = best_more c.args.counts.now c.args.done.now c.args.conds.now i c.cond-item.result c.loop-cond.best c.with_condition-best.result
           (next_move c.args.conds.now c.args.counts.now c.args.done.now) c.loop-cond-test.true c.cond-item.is here c.loop-cond.invariant.best;
     }
+
+pub returns : goal.returns
+returns c = grind (arith, common_steps)

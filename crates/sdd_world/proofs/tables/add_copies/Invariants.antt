@@ -1,5 +1,5 @@
 use Rattle.sdd_world.proofs.All.{Dated, filter, has_copy, map, numbers_to, table_of, ◌++◌, ◌-◌, ◌≡◌}
-use Rattle.sdd_needs.specs.All.{Represent}
+use Rattle.sdd_sites.specs.needs.All.{Represent}
 use Rattle.sdd_world.proofs.tables.add_copies.Given as goal
 
 abbrev pub invariant-loop-number : goal.invariant-loop-number

@@ -1,5 +1,4 @@
-use Rattle.sdd_world.proofs.All.{refl, with_event}
-use Rattle.sdd_world.proofs.Failing.{handed_on}
+use Rattle.sdd_world.proofs.All.{handed_on, refl, with_event}
 use Rattle.sdd_world.proofs.Rounds.{step_after, step_before}
 use Rattle.sdd_world.proofs.world.World.add_event.Goals as goal
 

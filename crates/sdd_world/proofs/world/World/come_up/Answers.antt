@@ -1,5 +1,4 @@
-use Rattle.sdd_world.proofs.All.{Up, refl}
-use Rattle.sdd_world.proofs.Failing.{handed_on}
+use Rattle.sdd_world.proofs.All.{Up, handed_on, refl}
 use Rattle.sdd_world.proofs.Marking.{order_of}
 use Rattle.sdd_world.proofs.Keeping.{placed}
 use Rattle.sdd_world.proofs.Rising.{came_up}

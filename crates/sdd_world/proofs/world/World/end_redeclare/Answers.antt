@@ -1,5 +1,4 @@
-use Rattle.sdd_world.proofs.All.{Redeclare, with_event}
-use Rattle.sdd_world.proofs.Failing.{handed_on}
+use Rattle.sdd_world.proofs.All.{Redeclare, handed_on, with_event}
 use Rattle.sdd_world.proofs.NextList.{redeclaring}
 use Rattle.sdd_world.proofs.world.World.end_redeclare.Goals as goal
 

@@ -1,5 +1,4 @@
-use Rattle.sdd_world.proofs.All.{HandedOn, Handing, position_of, from_one, no_items, subst}
-use Rattle.sdd_world.proofs.Failing.{handed_on}
+use Rattle.sdd_world.proofs.All.{HandedOn, Handing, from_one, handed_on, no_items, position_of, subst}
 use Rattle.sdd_world.proofs.Delivering.{handed_further, handed_none, handed_whole, one_first, one_takes}
 use Rattle.sdd_world.proofs.world.World.hand_all.Goals as goal
 

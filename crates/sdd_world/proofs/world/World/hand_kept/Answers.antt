@@ -1,5 +1,4 @@
-use Rattle.sdd_world.proofs.All.{kept_from, mailbox_at, refl, ◌∙◌}
-use Rattle.sdd_world.proofs.Failing.{handed_on}
+use Rattle.sdd_world.proofs.All.{handed_on, kept_from, mailbox_at, refl, ◌∙◌}
 use Rattle.sdd_world.proofs.Keeping.{placed}
 use Rattle.sdd_world.proofs.Rising.{boxed, first_kept, less_kept, none_left, rising_on, taken_out}
 use Rattle.sdd_world.proofs.world.World.hand_kept.Goals as goal

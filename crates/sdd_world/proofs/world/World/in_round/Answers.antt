@@ -1,5 +1,4 @@
-use Rattle.sdd_world.proofs.All.{refl, ◌∷◌}
-use Rattle.sdd_world.proofs.Failing.{handed_on}
+use Rattle.sdd_world.proofs.All.{handed_on, refl, ◌∷◌}
 use Rattle.sdd_world.proofs.Rounds.{one_mark, round_after, round_before}
 use Rattle.sdd_world.proofs.world.World.in_round.Goals as goal
 

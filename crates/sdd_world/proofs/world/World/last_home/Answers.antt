@@ -1,6 +1,6 @@
 use Rattle.sdd_world.proofs.All.{Catalogue, ap, fits_in_era, home_of as site_of, nth_era, redeclares, refl, subst, sym, ◌∙◌}
 use Rattle.sdd_world.proofs.HomesExist.{no_txn, txn_read}
-use Rattle.sdd_needs.specs.lang.Fits.{FitsTxn}
+use Rattle.sdd_sites.specs.needs.lang.Fits.{FitsTxn}
 use Rattle.sdd_world.proofs.world.World.last_home.Goals as goal
 
 pub home-requires : goal.home-requires

@@ -1,6 +1,5 @@
 use Rattle.sdd_world.proofs.All.{Carries, Catalogue, Era, [], ap, refl, subst, sym, ◌∙◌}
 use Rattle.sdd_world.proofs.Beginning.{begins}
-use Rattle.sdd_world.proofs.FirstModules.{all_begun}
 use Rattle.sdd_world.proofs.world.World.new.Goals as goal
 
 pub returns : goal.returns
@@ -15,13 +14,12 @@ returns c = λ g good sound begun.
       given = c.new-4.result;
       history = c.new-5.result;
       marks = 0;
-      sites = record { u = c.in_ok-u.u; tms = c.in_ok-tms.tms; dms = c.args.modules };
+      sites = c.in_ok-sites.sites;
       net = c.in_ok-net.net;
       spool = c.in_ok-spool.spool;
     })
     c.tms-2.result c.dms-2.result c.new-5.ensures refl c.new-4.ensures.items c.in_ok-spool.ensures g good sound (sym begun.catalogue_is)
     (ap (λ (f : Era). f.catalogue) (sym begun.era_is)) (tms_are ∙ sym c.tms-2.ensures) (dms_are ∙ sym c.dms-2.ensures) begun.txns_are begun.no_events
-    (all_begun c.args.whole.now c.args.catalogue.now c.args.table.now c.args.txns c.in_ok-u.u c.in_ok-tms.tms.items c.args.modules.items c.in_ok-u.ensures
-    c.in_ok-tms.ensures g begun)
+    (c.in_ok-sites.ensures g c.args.txns begun)
     (subst (λ n. Carries c.in_ok-net.net n g.catalogue.dms []) (c.tms.ensures ∙ sym tms_are)
     (subst (λ n. Carries c.in_ok-net.net c.tms.result n []) (c.dms.ensures ∙ sym dms_are) c.in_ok-net.ensures))

@@ -1,5 +1,4 @@
-use Rattle.sdd_world.proofs.All.{Resumed, Resuming, T, subst, sym}
-use Rattle.sdd_world.proofs.Failing.{no_end}
+use Rattle.sdd_world.proofs.All.{Resumed, Resuming, T, no_end, subst, sym}
 use Rattle.sdd_world.proofs.Resuming.{events_order, may_send, resume_asks, resume_done, resume_ends, resumed_other, taken}
 use Rattle.sdd_world.proofs.Results.{of_ok as map_ok}
 use Rattle.sdd_world.proofs.world.World.resume.Goals as goal

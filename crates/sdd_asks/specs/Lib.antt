@@ -1,0 +1,2 @@
+pub mod Asks
+pub use Rattle.sdd_rules.specs as rules

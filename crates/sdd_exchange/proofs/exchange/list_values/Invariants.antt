@@ -1,5 +1,0 @@
-use Rattle.sdd_exchange.proofs.All.{map, ◌≡◌}
-use Rattle.sdd_exchange.proofs.exchange.list_values.Given as goal
-
-abbrev pub invariant-loop-value : goal.invariant-loop-value
-invariant-loop-value l = l.list.items ≡ map (λ v. v.now) l.yielded

@@ -1,5 +1,0 @@
-use Rattle.sdd_exchange.proofs.All.{with_values, ◌≡◌}
-use Rattle.sdd_exchange.proofs.exchange.unite.Given as goal
-
-abbrev pub invariant-loop-value : goal.invariant-loop-value
-invariant-loop-value l = l.union.keys ≡ with_values l.initial.union.keys l.yielded

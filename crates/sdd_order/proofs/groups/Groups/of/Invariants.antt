@@ -1,5 +1,0 @@
-use Rattle.sdd_order.proofs.All.{groups, take, ◌≡◌}
-use Rattle.sdd_order.proofs.groups.Groups.of.Given as goal
-
-abbrev pub invariant-loop-key : goal.invariant-loop-key
-invariant-loop-key l = l.made ≡ groups (take l.key-index l.pairs) l.count

@@ -1,5 +1,0 @@
-use Rattle.sdd_order.proofs.All.{first_ready, ◌≡◌}
-use Rattle.sdd_order.proofs.taking.first_ready.Given as goal
-
-abbrev pub invariant-loop-node : goal.invariant-loop-node
-invariant-loop-node l = l.ready.keys ≡ first_ready l.counts l.node

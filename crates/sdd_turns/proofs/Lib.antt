@@ -1,0 +1,2 @@
+mod All
+pub mod Turns

@@ -1,5 +1,0 @@
-use Rattle.sdd_world.proofs.All.{IsPacketSpelling, subst}
-use Rattle.sdd_world.proofs.opening.open_packet.Goals as goal
-
-pub open_one-requires : goal.open_one-requires
-open_one-requires c = subst IsPacketSpelling c.in-Message.is c.requires

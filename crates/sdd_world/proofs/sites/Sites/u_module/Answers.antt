@@ -1,4 +1,0 @@
-use Rattle.sdd_world.proofs.sites.Sites.u_module.Goals as goal
-
-pub returns : goal.returns
-returns c = λ setting log represents. represents
