@@ -14,15 +14,15 @@ pub(crate) fn commit_attempt(
     alloc: Global,
     catalogue: &Catalogue,
     class: ClassNo,
-    queued: Queued,
+    queued: &Queued,
     running: Running,
     draft: &mut Draft,
 ) -> Result<(), NoMemory>
-    requires { FitsTxn catalogue.now queued.text }
+    requires { FitsTxn catalogue.now queued.now.text }
     ensures { OnOk result (
         (bases : Bases) → ((ts : ℕ) → IsDatabase catalogue.now (bases ts))
-        → Serves catalogue.now queued.text running.exchange.found (bases running.ts)
-        → draft.new ≡ with_act (commit_act catalogue.now bases class.0 (attempt_of queued running)) draft.old) }
+        → Serves catalogue.now queued.now.text running.exchange.found (bases running.ts)
+        → draft.new ≡ with_act (commit_act catalogue.now bases class.0 (attempt_of queued.now running)) draft.old) }
 {
     let Running { ts, exchange } = running;
     let values = exchange.values();

@@ -227,11 +227,11 @@ impl<'a> Line<'a> {
             Some(running) => match running.hand(class, from, msg) {
                 Ok(true) => Ok(()),
                 Ok(false) => {
-                    self.running = None;
+                    set_running(&mut self.running, None);
                     Ok(())
                 }
                 Err(error) => {
-                    self.running = None;
+                    set_running(&mut self.running, None);
                     Err(error)
                 }
             },
@@ -274,7 +274,7 @@ impl<'a> Line<'a> {
                         self.alloc,
                         self.catalogue,
                         self.class,
-                        queued,
+                        &queued,
                         running,
                         draft,
                     );
@@ -361,11 +361,18 @@ impl<'a> Line<'a> {
                     draft,
                 )?;
                 queued.add_try();
-                self.running = Some(running);
+                set_running(&mut self.running, Some(running));
                 Ok(())
             }
         }
     }
+}
+
+/// Puts an attempt, or none, in the place of the one that is under way.
+fn set_running(place: &mut Option<Running>, running: Option<Running>)
+    ensures { place.new ≡ running }
+{
+    *place = running;
 }
 
 /// The transactions in a queue, in order.

@@ -11,8 +11,22 @@ use std::alloc::Global;
 
 pub fn tell_calls(alloc: Global, out: &mut Vec<u8>) -> Result<(), NoMemory> {
     let made = make(alloc, 1, 1)?;
-    match read_catalogue(alloc, made.catalogue.as_slice()) {
-        Ok(catalogue) => tell_all(alloc, out, &catalogue, made.workload.as_slice()),
+    tell_made(
+        alloc,
+        out,
+        made.catalogue.as_slice(),
+        made.workload.as_slice(),
+    )
+}
+
+fn tell_made(
+    alloc: Global,
+    out: &mut Vec<u8>,
+    catalogue: &[u8],
+    workload: &[u8],
+) -> Result<(), NoMemory> {
+    match read_catalogue(alloc, catalogue) {
+        Ok(catalogue) => tell_all(alloc, out, &catalogue, workload),
         Err(_) => Ok(()),
     }
 }
@@ -38,16 +52,16 @@ fn tell_catalogues(
     tell(
         out,
         b"parts and build",
-        catalogues::is_built_again(alloc, catalogue)?,
+        catalogues::is_built_again(alloc, catalogue),
     )?;
-    tell(out, b"extend", catalogues::is_extended(alloc, catalogue)?)?;
+    tell(out, b"extend", catalogues::is_extended(alloc, catalogue))?;
     tell(
         out,
         b"extend by a name that is there",
-        catalogues::is_refused(alloc, catalogue)?,
+        catalogues::is_refused(alloc, catalogue),
     )?;
-    tell(out, b"retire", catalogues::is_retired(alloc, catalogue)?)?;
-    tell(out, b"check_advice", advices::are_judged(alloc, catalogue)?)
+    tell(out, b"retire", catalogues::is_retired(alloc, catalogue))?;
+    tell(out, b"check_advice", advices::are_judged(alloc, catalogue))
 }
 
 fn tell_transactions(
@@ -62,12 +76,12 @@ fn tell_transactions(
     tell(
         out,
         b"write_set",
-        transactions::write_both(alloc, catalogue, txns)?,
+        transactions::write_both(alloc, catalogue, txns),
     )?;
     tell(
         out,
         b"run_all",
-        transactions::are_run(alloc, catalogue, work)?,
+        transactions::are_run(alloc, catalogue, work),
     )?;
-    tell(out, b"make", txns.len() == 1)
+    tell(out, b"make", Ok(txns.len() == 1))
 }

@@ -6,8 +6,22 @@ use std::slice;
 
 pub fn is_built_again(alloc: Global, catalogue: &Catalogue) -> Result<bool, NoMemory> {
     let parts = catalogue.parts()?;
-    let copy = catalogue.copy()?;
-    Ok(has_parts(&copy, &parts)? && is_built(alloc, &parts)?)
+    are_built(alloc, catalogue, &parts)
+}
+
+/// Whether a copy of the catalogue has the parts, and so has the catalogue that they build.
+fn are_built(alloc: Global, catalogue: &Catalogue, parts: &Parts) -> Result<bool, NoMemory> {
+    if is_copied(catalogue, parts)? {
+        return is_built(alloc, parts);
+    }
+    Ok(false)
+}
+
+fn is_copied(catalogue: &Catalogue, parts: &Parts) -> Result<bool, NoMemory> {
+    match catalogue.copy() {
+        Ok(copy) => has_parts(&copy, parts),
+        Err(_) => Err(NoMemory),
+    }
 }
 
 /// Whether the catalogue has as many relations and fragments as the parts, and the same last class.
@@ -34,7 +48,7 @@ fn is_built(alloc: Global, parts: &Parts) -> Result<bool, NoMemory> {
 /// A class `audit` comes after those that are there.
 pub fn is_extended(alloc: Global, catalogue: &Catalogue) -> Result<bool, NoMemory> {
     match Name::new(alloc, "audit")? {
-        Some(name) => is_extended_by(alloc, catalogue, idle(alloc, name)),
+        Some(name) => is_extended_by(alloc, catalogue, &idle(alloc, name)),
         None => Ok(false),
     }
 }
@@ -52,10 +66,10 @@ fn idle(alloc: Global, name: Name) -> ClassPart {
 fn is_extended_by(
     alloc: Global,
     catalogue: &Catalogue,
-    class: ClassPart,
+    class: &ClassPart,
 ) -> Result<bool, NoMemory> {
-    match extend(alloc, catalogue, slice::from_ref(&class)) {
-        Ok(extended) => ends_with(&extended, &class),
+    match extend(alloc, catalogue, slice::from_ref(class)) {
+        Ok(extended) => ends_with(&extended, class),
         Err(_) => Ok(false),
     }
 }
@@ -76,9 +90,13 @@ fn is_last(classes: &[ClassPart], class: &ClassPart) -> bool {
 /// No class is put after those that are there by the name of one of them.
 pub fn is_refused(alloc: Global, catalogue: &Catalogue) -> Result<bool, NoMemory> {
     let parts = catalogue.parts()?;
-    match extend(alloc, catalogue, parts.classes.as_slice()) {
-        Err(CatError::Fault(_)) => Ok(true),
-        _ => Ok(false),
+    Ok(has_fault(extend(alloc, catalogue, parts.classes.as_slice())))
+}
+
+fn has_fault(extended: Result<Catalogue, CatError>) -> bool {
+    match extended {
+        Err(CatError::Fault(_)) => true,
+        _ => false,
     }
 }
 

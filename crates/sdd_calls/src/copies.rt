@@ -2,24 +2,48 @@
 use sdd_copy::FragCopy;
 use sdd_script::{Change, FragNo, NoMemory, Row, Ts, Value};
 use std::alloc::Global;
+use std::slice;
 
 pub fn stays_deleted(alloc: Global) -> Result<bool, NoMemory> {
     let copy = delete_row(alloc)?;
-    Ok(rows_of(&copy)?.is_empty())
+    has_no_row(&copy)
+}
+
+fn has_no_row(copy: &FragCopy) -> Result<bool, NoMemory> {
+    let rows = rows_of(copy)?;
+    Ok(rows.is_empty())
 }
 
 pub fn comes_back(alloc: Global) -> Result<bool, NoMemory> {
-    let copy = write_row(delete_row(alloc)?, 91, Some(row(alloc, 3)?))?;
-    let (rows, last) = (rows_of(&copy)?, row(alloc, 3)?);
-    Ok(rows.as_slice() == [last].as_slice())
+    let last = row(alloc, 3)?;
+    is_put_back(alloc, &last)
+}
+
+fn is_put_back(alloc: Global, last: &Row) -> Result<bool, NoMemory> {
+    let copy = put_row(alloc, delete_row(alloc)?, 91, 3)?;
+    has_row(&copy, last)
+}
+
+/// Whether the row is the only one.
+fn has_row(copy: &FragCopy, row: &Row) -> Result<bool, NoMemory> {
+    let rows = rows_of(copy)?;
+    Ok(rows.as_slice() == slice::from_ref(row))
 }
 
 /// The row is deleted at 90, and then one is put at 70.
 fn delete_row(alloc: Global) -> Result<FragCopy, NoMemory> {
-    let first = [row(alloc, 1)?];
-    let copy = FragCopy::new(alloc, &first, 1)?;
-    let copy = write_row(copy, 90, None)?;
-    write_row(copy, 70, Some(row(alloc, 2)?))
+    let copy = write_row(start_copy(alloc)?, 90, None)?;
+    put_row(alloc, copy, 70, 2)
+}
+
+fn start_copy(alloc: Global) -> Result<FragCopy, NoMemory> {
+    let first = row(alloc, 1)?;
+    FragCopy::new(alloc, slice::from_ref(&first), 1)
+}
+
+fn put_row(alloc: Global, copy: FragCopy, ts: u64, value: i64) -> Result<FragCopy, NoMemory> {
+    let row = row(alloc, value)?;
+    write_row(copy, ts, Some(row))
 }
 
 fn write_row(copy: FragCopy, ts: u64, row: Option<Row>) -> Result<FragCopy, NoMemory> {

@@ -37,24 +37,24 @@ fn tell_all(alloc: Global, out: &mut Vec<u8>) -> Result<(), NoMemory> {
 }
 
 fn tell_values(alloc: Global, out: &mut Vec<u8>) -> Result<(), NoMemory> {
-    tell(out, b"names", names::accept_names_only(alloc)?)?;
-    tell(out, b"texts", names::accept_texts_only(alloc)?)?;
-    tell(out, b"a sink that always takes", sinks::takes_five(alloc)?)
+    tell(out, b"names", names::accept_names_only(alloc))?;
+    tell(out, b"texts", names::accept_texts_only(alloc))?;
+    tell(out, b"a sink that always takes", sinks::takes_five(alloc))
 }
 
 fn tell_graphs(alloc: Global, out: &mut Vec<u8>) -> Result<(), NoMemory> {
-    tell(out, b"blocks of two triangles", graphs::two_blocks(alloc)?)?;
-    tell(out, b"one block of 64 classes", graphs::one_block(alloc)?)?;
-    tell(out, b"a deleted row", copies::stays_deleted(alloc)?)?;
-    tell(out, b"a row that is put later", copies::comes_back(alloc)?)
+    tell(out, b"blocks of two triangles", graphs::two_blocks(alloc))?;
+    tell(out, b"one block of 64 classes", graphs::one_block(alloc))?;
+    tell(out, b"a deleted row", copies::stays_deleted(alloc))?;
+    tell(out, b"a row that is put later", copies::comes_back(alloc))
 }
 
 fn tell_messages(alloc: Global, out: &mut Vec<u8>) -> Result<(), NoMemory> {
-    tell(out, b"encode", messages::is_spelled(alloc)?)?;
-    tell(out, b"decode", messages::is_read(alloc)?)?;
+    tell(out, b"encode", messages::is_spelled(alloc))?;
+    tell(out, b"decode", messages::is_read(alloc))?;
     tell(
         out,
         b"decode what is no message",
-        messages::break_there(alloc)?,
+        messages::break_there(alloc),
     )
 }

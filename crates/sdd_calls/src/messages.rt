@@ -11,16 +11,33 @@ fn null() -> Msg {
     }
 }
 
+/// Its bytes: 11, which says that it is a NULL, and the class and the time, the highest byte first.
 pub fn is_spelled(alloc: Global) -> Result<bool, NoMemory> {
-    let bytes = encode(alloc, &null())?;
-    Ok(bytes.as_slice() == [11, 0, 0, 0, 2, 0, 0, 0, 0, 0, 0, 0, 191].as_slice())
+    let bytes = null_bytes(alloc)?;
+    Ok(bytes.as_slice() == b"\x0b\0\0\0\x02\0\0\0\0\0\0\0\xbf".as_slice())
+}
+
+fn null_bytes(alloc: Global) -> Result<Vec<u8>, NoMemory> {
+    let null = null();
+    encode(alloc, &null)
 }
 
 pub fn is_read(alloc: Global) -> Result<bool, NoMemory> {
-    let bytes = encode(alloc, &null())?;
-    match decode_message(alloc, bytes.as_slice()) {
-        Ok(found) => Ok(found == null()),
-        Err(_) => Ok(false),
+    let bytes = null_bytes(alloc)?;
+    Ok(reads_null(alloc, bytes.as_slice()))
+}
+
+fn reads_null(alloc: Global, bytes: &[u8]) -> bool {
+    match decode_message(alloc, bytes) {
+        Ok(found) => is_null(&found),
+        Err(_) => false,
+    }
+}
+
+fn is_null(found: &Msg) -> bool {
+    match found {
+        Msg::Null { class, time } => *class == ClassNo(2) && *time == Ts(191),
+        _ => false,
     }
 }
 
@@ -32,7 +49,7 @@ fn decode_message(alloc: Global, bytes: &[u8]) -> Result<Msg, WireFault> {
 
 /// One byte too many, one too few, and a byte that begins no message.
 pub fn break_there(alloc: Global) -> Result<bool, NoMemory> {
-    let mut bytes = encode(alloc, &null())?;
+    let mut bytes = null_bytes(alloc)?;
     bytes.push(0)?;
     let more = breaks_at(alloc, bytes.as_slice(), 13);
     let _ = bytes.pop();

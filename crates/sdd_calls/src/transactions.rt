@@ -23,11 +23,18 @@ fn writes_both(alloc: Global, catalogue: &Catalogue, txn: &Txn) -> Result<bool, 
 }
 
 /// Whether each transaction has a reply.
-#[tactic(auto, using(crate::proofs::Fitting::txns_fit))]
 pub fn are_run(alloc: Global, catalogue: &Catalogue, work: &Workload) -> Result<bool, NoMemory>
     requires { IsValid catalogue.now work.now }
 {
     let mut plain = start_plain(alloc, catalogue, work)?;
+    has_replies(&mut plain, catalogue, work)
+}
+
+#[tactic(auto, using(crate::proofs::Fitting::txns_fit))]
+fn has_replies(plain: &mut Plain, catalogue: &Catalogue, work: &Workload) -> Result<bool, NoMemory>
+    requires live { IsTrue plain.old.live }
+    requires valid { IsValid catalogue.now work.now }
+{
     let replies = plain.run_all(catalogue, work.txns.as_slice())?;
     Ok(replies.as_slice().len() == work.txns.as_slice().len())
 }

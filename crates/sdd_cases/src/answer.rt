@@ -42,23 +42,49 @@ impl Answer {
 
 /// Makes the call.
 pub fn call(alloc: Global, case: &Case, run: Run<'_>) -> Result<Answer> {
-    let files = files(alloc, case.files.as_slice(), run.cut)?;
-    let mut shelf = MemShelf::new(files, case.reads.max(1), calls(alloc, run.shelf_fails)?);
-    let mut out = sink(alloc, case.out, run.out_fails)?;
-    let mut err = sink(alloc, case.err, case.err.fails)?;
+    let mut shelf = shelf(alloc, case, run)?;
+    call_over(alloc, case, run, &mut shelf)
+}
+
+/// Makes the call over this shelf.
+fn call_over(alloc: Global, case: &Case, run: Run<'_>, shelf: &mut MemShelf) -> Result<Answer> {
+    let mut answer = empty_answer(alloc, case, run)?;
+    answer.status = status(alloc, case, shelf, &mut answer.out, &mut answer.err);
+    Ok(answer)
+}
+
+fn status(
+    alloc: Global,
+    case: &Case,
+    shelf: &mut MemShelf,
+    out: &mut MemSink,
+    err: &mut MemSink,
+) -> Status {
     let words = case.words.as_slice();
-    let status = match case.program {
-        Program::Sdd1 => run_sdd1(alloc, words, &mut shelf, &mut out, &mut err),
-        Program::Inside => run_inside(alloc, words, &mut shelf, &mut out, &mut err),
-        Program::Ask => run_ask(alloc, words, &mut shelf, &mut out, &mut err),
-    };
+    match case.program {
+        Program::Sdd1 => run_sdd1(alloc, words, shelf, out, err),
+        Program::Inside => run_inside(alloc, words, shelf, out, err),
+        Program::Ask => run_ask(alloc, words, shelf, out, err),
+    }
+}
+
+fn shelf(alloc: Global, case: &Case, run: Run<'_>) -> Result<MemShelf> {
+    let fails = calls(alloc, run.shelf_fails)?;
+    let files = files(alloc, case.files.as_slice(), run.cut)?;
+    Ok(MemShelf::new(files, case.reads.max(1), fails))
+}
+
+/// The sinks before the call. Its status is set once the call is made.
+fn empty_answer(alloc: Global, case: &Case, run: Run<'_>) -> Result<Answer> {
+    let out = sink(alloc, case.out, run.out_fails)?;
+    let err = sink(alloc, case.err, case.err.fails)?;
+    let status = Status::Done;
     Ok(Answer { status, out, err })
 }
 
 fn sink(alloc: Global, taking: Taking, fails: u64) -> Result<MemSink> {
-    MemSink::new(alloc, taking.room, taking.most, calls(alloc, fails)?).map_err(|_| anyhow!(
-        "no memory"
-    ))
+    let fails = calls(alloc, fails)?;
+    MemSink::new(alloc, taking.room, taking.most, fails).map_err(|_| anyhow!("no memory"))
 }
 
 fn calls(alloc: Global, number: u64) -> Result<CallNos> {
@@ -67,20 +93,37 @@ fn calls(alloc: Global, number: u64) -> Result<CallNos> {
 
 fn files(alloc: Global, texts: &[Text], cut: Option<(&str, usize)>) -> Result<Files> {
     let mut files = Vec::new(alloc);
-    for text in texts {
-        files.push(file(alloc, text, cut)?)?;
-    }
+    add_files(alloc, &mut files, texts, cut)?;
     Ok(Files::from_vec(files))
 }
 
-fn file(alloc: Global, text: &Text, cut: Option<(&str, usize)>) -> Result<ShelfFile> {
+fn add_files(
+    alloc: Global,
+    files: &mut Vec<ShelfFile>,
+    texts: &[Text],
+    cut: Option<(&str, usize)>,
+) -> Result<()> {
+    for text in texts {
+        let file = file(alloc, text.name.as_bytes(), left_of(text, cut))?;
+        files.push(file)?;
+    }
+    Ok(())
+}
+
+/// The bytes of a text that are left where one may be cut.
+fn left_of<'a>(text: &'a Text, cut: Option<(&str, usize)>) -> &'a [u8] {
     let all = text.bytes.as_slice();
-    let bytes = match cut {
+    match cut {
         Some((name, count)) if text.name.as_str() == name => &all[..count.min(all.len())],
         _ => all,
-    };
+    }
+}
+
+fn file(alloc: Global, name: &[u8], bytes: &[u8]) -> Result<ShelfFile> {
+    let name = Vec::from_slice(alloc, name)?;
+    let bytes = Vec::from_slice(alloc, bytes)?;
     Ok(ShelfFile {
-        name: Bytes::from_vec(Vec::from_slice(alloc, text.name.as_bytes())?),
-        bytes: Bytes::from_vec(Vec::from_slice(alloc, bytes)?),
+        name: Bytes::from_vec(name),
+        bytes: Bytes::from_vec(bytes),
     })
 }

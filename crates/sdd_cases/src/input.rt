@@ -34,15 +34,18 @@ pub fn tell_cases<W: Write>(alloc: Global, lines: &str, out: &mut W) -> Result<(
         case: None,
         place: Place::Nowhere,
     };
-    for (before, line) in lines.split('\n').enumerate() {
-        input
-            .take(alloc, line, out)
-            .context(format_args!("line {}", before.saturating_add(1)))?;
-    }
-    input.tell_case(alloc, out)
+    input.take_all(alloc, lines, out)
 }
 
 impl Input {
+    fn take_all<W: Write>(&mut self, alloc: Global, lines: &str, out: &mut W) -> Result<()> {
+        for (before, line) in lines.split('\n').enumerate() {
+            self.take(alloc, line, out)
+                .context(format_args!("line {}", before.saturating_add(1)))?;
+        }
+        self.tell_case(alloc, out)
+    }
+
     fn take<W: Write>(&mut self, alloc: Global, line: &str, out: &mut W) -> Result<()> {
         if line.is_empty() || line.starts_with("#") {
             return Ok(());

@@ -23,22 +23,48 @@ struct Group {
 pub fn tell_runs<W: Write>(alloc: Global, case: &Case, out: &mut W) -> Result<()> {
     put_name(out, case.name.as_str())?;
     match &case.each {
-        Each::Alone => put_answer(out, &call(alloc, case, nth(case, 0))?),
+        Each::Alone => tell_alone(alloc, case, out),
         _ => tell_each(alloc, case, out),
     }
 }
 
+fn tell_alone<W: Write>(alloc: Global, case: &Case, out: &mut W) -> Result<()> {
+    let answer = call(alloc, case, nth(case, 0))?;
+    put_answer(out, &answer)
+}
+
 fn tell_each<W: Write>(alloc: Global, case: &Case, out: &mut W) -> Result<()> {
-    let mut group: Option<Group> = None;
+    let mut group = None;
+    tell_groups(alloc, case, &mut group, out)
+}
+
+/// Makes the runs, and writes each group once it is whole.
+fn tell_groups<W: Write>(
+    alloc: Global,
+    case: &Case,
+    group: &mut Option<Group>,
+    out: &mut W,
+) -> Result<()> {
     for number in first(case)..MOST {
-        let next = call(alloc, case, nth(case, number))?;
-        let last = is_last(case, number, &next);
-        group = Some(add_run(group, number, next, out)?);
-        if last {
+        if make_run(alloc, case, number, group, out)? {
             return put_group(out, group);
         }
     }
     bail!("a case of too many runs")
+}
+
+/// Makes one run, and says whether it is the last.
+fn make_run<W: Write>(
+    alloc: Global,
+    case: &Case,
+    number: usize,
+    group: &mut Option<Group>,
+    out: &mut W,
+) -> Result<bool> {
+    let next = call(alloc, case, nth(case, number))?;
+    let last = is_last(case, number, &next);
+    add_run(group, number, next, out)?;
+    Ok(last)
 }
 
 /// The number of the first run: of no lines or bytes, or of the first call.
@@ -91,30 +117,39 @@ fn is_last(case: &Case, number: usize, answer: &Answer) -> bool {
     }
 }
 
-/// The group with one run more; where that answers otherwise, the group is written and a new one begins.
+/// Adds one run to the group; where it answers otherwise, the group is written and a new one begins.
 fn add_run<W: Write>(
-    group: Option<Group>,
+    group: &mut Option<Group>,
     number: usize,
     answer: Answer,
     out: &mut W,
-) -> Result<Group> {
-    match group {
-        Some(group) if group.answer.is_same(&answer) => Ok(Group {
+) -> Result<()> {
+    if !joins(group, number, &answer) {
+        put_group(out, group)?;
+        *group = Some(Group {
+            first: number,
             last: number,
-            ..group
-        }),
-        _ => {
-            put_group(out, group)?;
-            Ok(Group {
-                first: number,
-                last: number,
-                answer,
-            })
+            answer,
+        });
+    }
+    Ok(())
+}
+
+/// Counts a run to the group where it answers the same, and says whether it does.
+fn joins(group: &mut Option<Group>, number: usize, answer: &Answer) -> bool {
+    match group {
+        None => false,
+        Some(group) => {
+            let same = group.answer.is_same(answer);
+            if same {
+                group.last = number;
+            }
+            same
         }
     }
 }
 
-fn put_group<W: Write>(out: &mut W, group: Option<Group>) -> Result<()> {
+fn put_group<W: Write>(out: &mut W, group: &Option<Group>) -> Result<()> {
     match group {
         None => Ok(()),
         Some(group) => {

@@ -22,10 +22,9 @@ impl Text {
 
     /// The same bytes under another name.
     pub fn copy_as(&self, alloc: Global, name: &str) -> Result<Self> {
-        Ok(Text {
-            name: String::from_str(alloc, name)?,
-            bytes: Vec::from_slice(alloc, self.bytes.as_slice())?,
-        })
+        let name = String::from_str(alloc, name)?;
+        let bytes = Vec::from_slice(alloc, self.bytes.as_slice())?;
+        Ok(Text { name, bytes })
     }
 
     /// Adds what a line stands for.
@@ -50,11 +49,7 @@ impl Text {
         }
         match piece.strip_prefix("=") {
             None => bail!("not a line of a text"),
-            Some(spelled) => {
-                let bytes = hex::decode(alloc, spelled)?;
-                self.bytes.extend_from_slice(bytes.as_slice())?;
-                Ok(())
-            }
+            Some(spelled) => add_spelled(alloc, &mut self.bytes, spelled),
         }
     }
 
@@ -62,6 +57,13 @@ impl Text {
     pub fn lines(&self) -> usize {
         self.bytes.iter().filter(|byte| **byte == b'\n').count()
     }
+}
+
+/// Adds the bytes that hexadecimal digits spell.
+fn add_spelled(alloc: Global, out: &mut Vec<u8>, spelled: &str) -> Result<()> {
+    let bytes = hex::decode(alloc, spelled)?;
+    out.extend_from_slice(bytes.as_slice())?;
+    Ok(())
 }
 
 /// Adds a line with its end.

@@ -1,6 +1,6 @@
 //! The text that a control file makes, piece by piece.
-ghost use Rattle.std.specs.Prelude.{◌≡◌, ◌+◌, ◌-◌, ◌<◌, ◌≤◌, ◌^◌, ◌∷◌, ◌++◌, length, IsTrue, IfOk, OnOk};
-ghost use Rattle.sdd_control.specs.Control.{live_at, next_note, run_after, with_event};
+ghost use Rattle.std.specs.Prelude.{◌≡◌, ◌+◌, ◌-◌, ◌<◌, ◌≤◌, ◌^◌, ◌∷◌, ◌++◌, [], length, IsTrue, IfOk, OnOk};
+ghost use Rattle.sdd_control.specs.Control.{live_at, next_note, run_after, run_of, with_event};
 ghost use Rattle.sdd_control.specs.Report.{ending, note_line, note_lines, note_words, report, site_line, site_lines, spaced, status_words, value_word};
 ghost use Rattle.sdd_control.specs.Script.{IsSoundScript};
 ghost use Rattle.sdd_backups.specs.Standing.{finished, stopped, value};
@@ -185,6 +185,35 @@ fn put_ending(out: &mut Vec<u8>, control: &Control, backups: u32) -> Result<(), 
     put(out, b"\nend\n")
 }
 
+/// The lines of a run that begins, and how it stands at its end.
+fn put_report(
+    out: &mut Vec<u8>,
+    control: &mut Control,
+    script: &ControlScript,
+) -> Result<(), NoMemory>
+    requires sound { IsSoundScript script.now }
+    requires begins { control.old ≡ live_at (run_of script.now.backups script.now.writes []) }
+    ensures { OnOk result (out.new.items ≡ out.old.items ++ report script.now) }
+{
+    put_events(out, control, script.acts.as_slice())?;
+    put_ending(out, control, script.backups)
+}
+
+/// The text of a run that begins. The caller owns the run, so that it is dropped at one place.
+fn report_of_run(
+    alloc: Global,
+    control: &mut Control,
+    script: &ControlScript,
+) -> Result<Bytes, NoMemory>
+    requires sound { IsSoundScript script.now }
+    requires begins { control.old ≡ live_at (run_of script.now.backups script.now.writes []) }
+    ensures { IfOk result (λ text. text ≡ report script.now) }
+{
+    let mut text = Vec::new(alloc);
+    put_report(&mut text, control, script)?;
+    Ok(Bytes::from_vec(text))
+}
+
 /// The text that a script makes. Costs time and memory linear in its events, each of which takes
 /// time linear in the sites.
 pub fn write_report(alloc: Global, script: &ControlScript) -> Result<Bytes, NoMemory>
@@ -192,8 +221,5 @@ pub fn write_report(alloc: Global, script: &ControlScript) -> Result<Bytes, NoMe
     ensures { IfOk result (λ text. text ≡ report script.now) }
 {
     let mut control = Control::new(alloc, script.backups, script.writes)?;
-    let mut text = Vec::new(alloc);
-    put_events(&mut text, &mut control, script.acts.as_slice())?;
-    put_ending(&mut text, &control, script.backups)?;
-    Ok(Bytes::from_vec(text))
+    report_of_run(alloc, &mut control, script)
 }

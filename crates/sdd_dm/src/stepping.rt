@@ -1,17 +1,19 @@
 //! What the head of a pipe does.
 ghost use Rattle.std.specs.Prelude.{◌≡◌, ◌<◌, ◌++◌, ◌∷◌, [], OnOk, IfOk, IsTrue, length, map, Some};
 ghost use Rattle.sdd_copy.specs.Frozen.{counts_of};
-ghost use Rattle.sdd_module.specs.All.{with_sends};
+ghost use Rattle.sdd_module.specs.All.{Read, with_act, with_sends};
 ghost use Rattle.sdd_pipe.specs.Pipes.{update};
 ghost use Rattle.sdd_rules.specs.declared.step.Step.TheVariants.{Processes, Refuses, Waits};
 ghost use Rattle.sdd_rules.specs.dm.Due.{ask_for};
 ghost use Rattle.sdd_dm.specs.Heads.{head_at, step_at};
-ghost use Rattle.sdd_dm.specs.State.{State, frozen_now, head_taken, state_after, notes_after};
+ghost use Rattle.sdd_dm.specs.State.{State, act_in, frozen_now, head_taken, state_after, notes_after};
 
 use crate::parts::Parts;
 use crate::slots::{put_space, set_waiting};
 use sdd_copy::Space;
-use sdd_module::{ClassNo, Cond, Conds, Draft, Msg, NoMemory, Rec, Site, Ts, Use, UseCounts};
+use sdd_module::{
+    ClassNo, Cond, Conds, Draft, Msg, NoMemory, Rec, Site, Ts, TxnNo, Use, UseCounts,
+};
 use sdd_rules::Step;
 
 impl Parts {
@@ -143,36 +145,53 @@ impl Parts {
             ≡ notes_after self.old class.0 (head_at self.old.pipes class.0) (Refuses by write)
             draft.old) }
     {
-        match self.take(class) {
+        let head = self.take(class);
+        match &head {
             Some(
                 Msg::Read {
                     ts,
                     class: of,
                     txn,
                     attempt,
-                    conds: _,
-                    uses: _,
+                    ..
                 },
-            ) => {
-                draft.record(Rec::Reject {
-                    txn,
-                    attempt,
-                    dm: self.dm,
-                    class: by,
-                    ts: write,
-                })?;
-                draft.send(
-                    self.source(class),
-                    Msg::Reject {
-                        ts,
-                        class: of,
-                        by,
-                        write,
-                    },
-                )
-            }
+            ) => self.reject_read(class, *of, *ts, *txn, *attempt, by, write, draft),
             _ => Ok(()),
         }
+    }
+
+    /// Records that a READ of a class is rejected, and sends the REJECT.
+    fn reject_read(
+        &self,
+        class: ClassNo,
+        of: ClassNo,
+        ts: Ts,
+        txn: TxnNo,
+        attempt: u64,
+        by: ClassNo,
+        write: Ts,
+        draft: &mut Draft,
+    ) -> Result<(), NoMemory>
+        ensures { OnOk result (draft.new
+            ≡ with_act (act_in self.now class.0 (Read ts of txn attempt [] []) (Refuses by write))
+            draft.old) }
+    {
+        draft.record(Rec::Reject {
+            txn,
+            attempt,
+            dm: self.dm,
+            class: by,
+            ts: write,
+        })?;
+        draft.send(
+            self.source(class),
+            Msg::Reject {
+                ts,
+                class: of,
+                by,
+                write,
+            },
+        )
     }
 
     /// Lets the READ at the head of a class wait, and asks for NULLs.

@@ -12,13 +12,13 @@ use std::mem;
 /// The catalogue with these classes after its own, where they break no rule there.
 fn with_added_classes(
     alloc: Global,
-    catalogue: &Catalogue,
+    catalogue: Catalogue,
     classes: &[ClassPart],
 ) -> Result<Catalogue, NoMemory>
-    requires { faults_of_added_classes catalogue.now classes.now ≡ [] }
-    ensures { IfOk result (λ all. all ≡ with_added_classes classes.now catalogue.now) }
+    requires { faults_of_added_classes catalogue classes.now ≡ [] }
+    ensures { IfOk result (λ all. all ≡ with_added_classes classes.now catalogue) }
 {
-    match extend(alloc, catalogue, classes) {
+    match extend(alloc, &catalogue, classes) {
         Ok(all) => Ok(all),
         Err(CatError::Fault(_)) => unreachable!(),
         Err(CatError::NoMemory) => Err(NoMemory),
@@ -31,7 +31,7 @@ fn next_era(alloc: Global, last: &Catalogue, classes: &[ClassPart]) -> Result<Ca
     ensures { IfOk result (λ next. next ≡ with_added_classes classes.now (retired (length last.now.classes) last.now)) }
 {
     let retired = retire(alloc, last, last.classes())?;
-    with_added_classes(alloc, &retired, classes)
+    with_added_classes(alloc, retired, classes)
 }
 
 /// The catalogues in force, one after the other.
@@ -64,7 +64,7 @@ pub(crate) fn whole_of(
 {
     let mut all = catalogue.copy()?;
     'lists: for classes in lists {
-        all = with_added_classes(alloc, &all, classes.as_slice())?;
+        all = with_added_classes(alloc, all, classes.as_slice())?;
     }
     Ok(all)
 }

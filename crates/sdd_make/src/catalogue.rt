@@ -1,5 +1,5 @@
 //! The catalogue of the bank.
-ghost use Rattle.std.specs.Prelude.{◌≡◌, ◌∷◌, [], IfOk};
+ghost use Rattle.std.specs.Prelude.{◌≡◌, ◌++◌, ◌∷◌, [], IfOk, OnOk};
 ghost use Rattle.sdd_script.specs.All.{IsName};
 ghost use Rattle.sdd_make.specs.Bank.{column, account, fragment, read, class, eastpay, westpay, book, transfers, bank_parts, bank, east, west};
 
@@ -135,14 +135,22 @@ fn transfers(alloc: Global) -> Result<ClassPart, NoMemory>
     class(alloc, "move", 3, reads, writes)
 }
 
+fn add_classes(alloc: Global, classes: &mut Vec<ClassPart>) -> Result<(), NoMemory>
+    ensures { OnOk result (classes.new.items ≡ classes.old.items ++ bank_parts.classes) }
+{
+    classes.push(payments(alloc, "eastpay", "east", 1)?)?;
+    classes.push(payments(alloc, "westpay", "west", 2)?)?;
+    classes.push(book(alloc)?)?;
+    classes.push(transfers(alloc)?)?;
+    Ok(())
+}
+
 fn classes(alloc: Global) -> Result<ClassParts, NoMemory>
     ensures { IfOk result (λ c. c ≡ bank_parts.classes) }
 {
-    let eastpay = payments(alloc, "eastpay", "east", 1)?;
-    let westpay = payments(alloc, "westpay", "west", 2)?;
-    let book = book(alloc)?;
-    let transfers = transfers(alloc)?;
-    Ok(ClassParts::from_vec(vec![in alloc; eastpay, westpay, book, transfers]?))
+    let mut classes = Vec::new(alloc);
+    add_classes(alloc, &mut classes)?;
+    Ok(ClassParts::from_vec(classes))
 }
 
 fn parts(alloc: Global) -> Result<Parts, NoMemory>

@@ -1,5 +1,5 @@
 //! The lines of a workload, one after the other.
-ghost use Rattle.std.specs.Prelude.{◌≡◌, ◌≤◌, ◌^◌, length, IfOk};
+ghost use Rattle.std.specs.Prelude.{◌≡◌, ◌≤◌, ◌^◌, length, IfOk, MatchResult, Ok, Err};
 ghost use Rattle.sdd_lang.specs.All.{GivesReading};
 ghost use Rattle.sdd_script.specs.Rules.{rule_in};
 ghost use Rattle.sdd_script.specs.ReadResults.{Tells};
@@ -65,22 +65,22 @@ fn nothing_read(alloc: Global, catalogue: &Catalogue) -> State
 fn read_lines(
     alloc: Global,
     catalogue: &Catalogue,
-    state: State,
+    state: &mut State,
     bytes: &[u8],
-) -> Result<State, WorkError>
+) -> Result<(), WorkError>
     requires { length bytes.now ≤ 2 ^ 26 }
-    ensures { Tells result (walk_bytes catalogue.now 1 state bytes.now) }
+    ensures { MatchResult result
+        (λ _. walk_bytes catalogue.now 1 state.old bytes.now ≡ Ok state.new)
+        (λ e. Tells (Err e) (walk_bytes catalogue.now 1 state.old bytes.now)) }
 {
-    let mut state = state;
     let mut rest = bytes;
     let mut line = 1;
     'lines: while let Some((text, behind)) = next_line(rest) {
-        at_line(line, read_one(alloc, catalogue, &mut state, text))?;
+        at_line(line, read_one(alloc, catalogue, state, text))?;
         rest = behind;
         line += 1;
     }
-    at_line(line, check_tail(&state, rest))?;
-    Ok(state)
+    at_line(line, check_tail(state, rest))
 }
 
 /// The workload that a file gives, or its first fault: that of the first line at fault, and on it the
@@ -110,7 +110,8 @@ fn read_bytes(alloc: Global, bytes: &[u8], catalogue: &Catalogue) -> Result<Work
             rule: WorkRule::TooLong,
         }));
     }
-    let state = read_lines(alloc, catalogue, nothing_read(alloc, catalogue), bytes)?;
+    let mut state = nothing_read(alloc, catalogue);
+    read_lines(alloc, catalogue, &mut state, bytes)?;
     Ok(Workload {
         rows: state.rows.into_listed(),
         txns: state.txns.into_listed(),

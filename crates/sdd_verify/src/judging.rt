@@ -1,6 +1,7 @@
 //! The judging of a report.
 ghost use Rattle.std.specs.Prelude.{◌≡◌, IfOk};
 ghost use Rattle.sdd_script.specs.All.{GivesReading, IsValid};
+ghost use Rattle.sdd_verify.specs.Classes.{classes_submitted};
 ghost use Rattle.sdd_verify.specs.Flaws.{line_in};
 ghost use Rattle.sdd_verify.specs.Verdict.{judged, verdict};
 
@@ -16,6 +17,15 @@ use sdd_lists::lists_of;
 use sdd_script::{Catalogue, NoMemory, Workload};
 use std::alloc::Global;
 
+/// The class of each submitted transaction, in order of submission, by the class lists in force.
+fn classes_of(alloc: Global, catalogue: &Catalogue, work: &Workload) -> Result<Vec<u32>, NoMemory>
+    requires { IsValid catalogue.now work.now }
+    ensures { IfOk result (λ classes. classes.items ≡ classes_submitted catalogue.now work.now) }
+{
+    let lists = lists_of(alloc, catalogue, work)?;
+    submitted_classes(alloc, catalogue, lists.eras(), work)
+}
+
 /// Whether the report breaks no rule, or the first line at fault.
 fn judge(alloc: Global, catalogue: &Catalogue, work: &Workload, report: &[u8]) -> Result<(), Flaw>
     requires { IsValid catalogue.now work.now }
@@ -24,8 +34,7 @@ fn judge(alloc: Global, catalogue: &Catalogue, work: &Workload, report: &[u8]) -
     let lines = Lines::begin(report)?;
     let (number, line, behind) = order_line(lines)?;
     let submitted = Submitted::of(alloc, work)?;
-    let lists = lists_of(alloc, catalogue, work)?;
-    let classes = submitted_classes(alloc, catalogue, lists.eras(), work)?;
+    let classes = classes_of(alloc, catalogue, work)?;
     let order = read_order(alloc, &submitted, classes.as_slice(), number, line)?;
     let texts = submitted.texts(alloc, order.as_slice())?;
     let rest = pass_replies(alloc, catalogue, &work.rows, texts.as_slice(), behind)?;

@@ -17,7 +17,7 @@ pub type Spelling = Page;
 /// A message from one site to another. `ts` is the timestamp of the attempt that it concerns, and
 /// `class` the class of that attempt. READ, WRITE and NULL go through the pipe of their class at
 /// a data module.
-#[derive(Drop, PartialEq, Eq)]
+#[derive(Drop)]
 pub enum Msg {
     /// To a data module: freeze the rows of these uses, once the conditions are met.
     Read {

@@ -5,7 +5,7 @@ use Rattle.sdd_attempt.proofs.commit.commit_attempt.Goals as goal
 pub returns : goal.returns
 returns c = λ bases sound serves.
     let cat = c.args.catalogue.now in
-    let q = c.args.queued in
+    let q = c.args.queued.now in
     let r = c.args.running in
     let text = ap (λ x. x.text) c.queued.view_is in
     let found = c.into_found.ensures ∙ ap (λ x. x.exchange.found) c.running.view_is in

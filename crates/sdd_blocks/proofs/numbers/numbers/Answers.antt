@@ -1,3 +1,4 @@
+use Rattle.std.proofs.lemmas.Grind.{common_steps}
 use Rattle.sdd_blocks.proofs.All.{List, ap, arith, get_or, get_or_default, length, length-set, set, sym, ℕ, ◌+◌, ◌<◌, ◌∙◌, ◌≡◌}
 use Rattle.sdd_blocks.proofs.Numbering.{step_given, step_made, all_numbered}
 use Rattle.sdd_blocks.proofs.numbers.numbers.Goals.{then-mark-ne0+then-index-eq0, else-mark-ne0, else-mark-ne0-via-then-mark-ne0+else-index-eq0, else-mark-ne0-via-else-mark-ne0}
@@ -46,3 +47,6 @@ loop-mark-preserved c =
 pub returns : goal.returns
 returns c =
     all_numbered c.args.marks.now c.loop-mark.given.items c.loop-mark.numbers.items c.loop-mark.last c.loop-mark.mark-index c.loop-mark.invariant.0 (omega arith)
+
+pub loop-mark-init : goal.loop-mark-init
+loop-mark-init c = grind (arith, common_steps)

@@ -1,4 +1,5 @@
-use Rattle.sdd_exec.proofs.All.{List, [], key_for, length, map, option_map_or, picked, placed, refl, same_row, ℕ}
+use Rattle.std.proofs.lemmas.Grind.{common_steps}
+use Rattle.sdd_exec.proofs.All.{List, [], arith, key_for, length, map, option_map_or, picked, placed, refl, same_row, ℕ}
 use Rattle.sdd_exec.proofs.Steps.{flat_map_next}
 use Rattle.std.specs.HashMap as hash
 use Rattle.sdd_exec.proofs.joins.extend_all.Goals as goal
@@ -11,3 +12,6 @@ loop-choice-preserved c =
     flat_map_next f c.args.kept.now c.loop-choice.choice-index c.choice-item.result c.loop-choice.made.items c.extend.new.kept.items (f c.choice-item.result)
     c.loop-choice-test.true c.choice-item.is refl
     (rw (c.as_slice-in-loop-choice.ensures, c.places_of-places.ensures, c.in_ok-key.ensures, c.as_slice.ensures, c.count.ensures) at c.in_ok-extend.ensures) c.loop-choice.invariant
+
+pub returns : goal.returns
+returns c = grind (arith, common_steps)

@@ -1,4 +1,5 @@
-use Rattle.sdd_exec.proofs.All.{List, Row, ap, pair_of, pairs_of, slice_index_or as get_or, subst, sym, take, ℕ, ◌+◌, ◌∙◌, ◌≡◌}
+use Rattle.std.proofs.lemmas.Grind.{common_steps}
+use Rattle.sdd_exec.proofs.All.{List, Row, ap, arith, pair_of, pairs_of, slice_index_or as get_or, subst, sym, take, ℕ, ◌+◌, ◌∙◌, ◌≡◌}
 use Rattle.sdd_exec.proofs.Steps.{filter_map_more, filter_map_same}
 use Rattle.sdd_exec.proofs.sifting.pairs_of.Goals.{in-Some+in_ok-push, in_default}
 use Rattle.sdd_exec.proofs.sifting.pairs_of.Goals as goal
@@ -20,3 +21,6 @@ loop-choice-preserved c =
           subst (λ m. Now m.items) (sym w.pairs-is)
           (c.loop-choice.invariant ∙ sym (filter_map_same f xs i x c.loop-choice-test.true (at_item ∙ w.in_default.is)))
     ]
+
+pub returns : goal.returns
+returns c = grind (arith, common_steps)

@@ -1,4 +1,5 @@
-use Rattle.sdd_net.proofs.All.{refl, without_at, ◌-◌}
+use Rattle.std.proofs.lemmas.Grind.{elements}
+use Rattle.sdd_net.proofs.All.{arith, refl, without_at, ◌-◌}
 use Rattle.sdd_net.proofs.Matching.{flight_is, flight_matches, left_is}
 use Rattle.sdd_net.proofs.Places.{fits_there, changes, live_flight}
 use Rattle.sdd_net.proofs.channels.take_at.Goals as goal
@@ -13,3 +14,6 @@ returns-clause-some g c w f =
     let left = left_is c.take.result x.flight c.take.new.self (c.args.place - 1) c.take.ensures.packet c.take.ensures.some c.take.ensures.none live in
     changes channels c.args.at x _ _ c.requires.live there
     (flight_matches x (record x { flight = c.take.new.self }) w (without_at w.flight (c.args.place - 1)) h refl (rw (flight_is x w h) at left) refl)
+
+pub returns-clause-packet : goal.returns-clause-packet
+returns-clause-packet g c = grind (arith, elements)

@@ -1,4 +1,5 @@
-use Rattle.sdd_protocol.proofs.All.{All, AreBlocks, AreEntries, HasCell, HasVertical, IsTable, ends, length, length-map, map, subst, sym, ◌+◌, ◌∙◌, ◌≡◌}
+use Rattle.std.proofs.lemmas.Grind.{common_steps}
+use Rattle.sdd_protocol.proofs.All.{All, AreBlocks, AreEntries, HasCell, HasVertical, IsTable, arith, ends, length, length-map, map, subst, sym, ◌+◌, ◌∙◌, ◌≡◌}
 use Rattle.sdd_protocol.proofs.MadeTable.{readers_there, cells_there, is_table}
 use Rattle.sdd_protocol.proofs.making.table.Goals as goal
 
@@ -30,3 +31,12 @@ returns c =
     subst (λ z. AreEntries edges z (length edges) entries) c.deref-3.ensures.value
     (subst (λ z. AreEntries z c.deref-3.result.now (length z) entries) c.deref-2.ensures.value c.in_ok-entries.ensures) in
     subst (λ z. IsTable cat z) (sym c.new.ensures) (is_table cat edges numbers entries c.in_ok-edges.ensures.edges blocks made)
+
+pub entries-requires-clause-one_each : goal.entries-requires-clause-one_each
+entries-requires-clause-one_each c = grind (arith, common_steps)
+
+pub new-requires : goal.new-requires
+new-requires c = grind (arith, common_steps)
+
+pub of-requires-clause-few : goal.of-requires-clause-few
+of-requires-clause-few c = grind (arith, common_steps)

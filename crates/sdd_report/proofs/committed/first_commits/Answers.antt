@@ -1,4 +1,5 @@
-use Rattle.sdd_report.proofs.All.{Option, ReportedCommit, ap, get, nat_cmp, subst, sym, take, ℕ, ◌+◌, ◌∙◌}
+use Rattle.std.proofs.lemmas.Grind.{common_steps}
+use Rattle.sdd_report.proofs.All.{Option, ReportedCommit, ap, arith, get, nat_cmp, subst, sym, take, ℕ, ◌+◌, ◌∙◌}
 use Rattle.sdd_report.proofs.Commits.{Found, no_commit, further_commit, first_commit}
 use Rattle.sdd_report.proofs.committed.first_commits.Goals.{in-Some+then-not-contains_key+in_ok-insert, in-Some+else-not-contains_key, in_default}
 use Rattle.sdd_report.proofs.committed.first_commits.Goals as goal
@@ -32,3 +33,6 @@ history-preserved c =
           let now = no_commit h i e old within there none kept in
           subst (λ m. Found (λ n. get nat_cmp m n) (take (i + 1) h)) (sym w.made-is) now
     ]
+
+pub returns : goal.returns
+returns c = grind (arith, common_steps)

@@ -1,4 +1,5 @@
-use Rattle.sdd_running.proofs.All.{dm_no}
+use Rattle.std.proofs.lemmas.Grind.{common_steps}
+use Rattle.sdd_running.proofs.All.{arith, dm_no}
 use Rattle.sdd_running.proofs.Reading.{module_more, sent_more}
 use Rattle.sdd_running.proofs.reads.send_reads_to.Goals as goal
 
@@ -13,3 +14,9 @@ loop-dm-preserved c =
       modules = module_more b dms i
           (dm_no 0) c.in_ok-read.read c.loop-dm.modules c.add.new.self c.loop-dm-test.true c.in_ok-read.ensures c.loop-dm.invariant.modules c.in_ok-add.ensures;
     }
+
+pub returns-clause-draft : goal.returns-clause-draft
+returns-clause-draft c = grind (arith, common_steps)
+
+pub returns-clause-modules : goal.returns-clause-modules
+returns-clause-modules c = grind (arith, common_steps)

@@ -1,10 +1,6 @@
 use Rattle.sdd_verify.proofs.All.{List, Txn, ap, map, texts_of, ◌∙◌}
-use Rattle.sdd_verify.proofs.ClassesFit.{txns_fit}
 use Rattle.sdd_verify.proofs.Submissions.{rows_fit, texts_fit}
 use Rattle.sdd_verify.proofs.judging.judge.Goals as goal
-
-pub submitted_classes-requires : goal.submitted_classes-requires
-submitted_classes-requires c = txns_fit c.args.catalogue.now c.args.work.now c.eras.result.now (c.eras.ensures ∙ c.in_ok-lists.ensures.eras) c.requires
 
 pub pass_replies-requires-clause-rows : goal.pass_replies-requires-clause-rows
 pass_replies-requires-clause-rows c = rows_fit c.args.catalogue.now c.args.work.now c.requires

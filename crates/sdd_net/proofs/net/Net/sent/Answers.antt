@@ -1,4 +1,5 @@
-use Rattle.sdd_net.proofs.All.{FitsWay, link, slice_get, subst, sym, ◌∙◌}
+use Rattle.std.proofs.lemmas.Grind.{elements}
+use Rattle.sdd_net.proofs.All.{FitsWay, arith, link, slice_get, subst, sym, ◌∙◌}
 use Rattle.sdd_net.proofs.Sound.{sound}
 use Rattle.sdd_net.proofs.Matching.{last_number_is}
 use Rattle.sdd_net.proofs.Deliveries.{acked_le, fits_live}
@@ -17,3 +18,6 @@ returns-clause-calls g c calls represents =
     let x = c.index-channel.result.now in
     let h = fits_there channels c.index_of.result x w (fits_live _ w fits) c.index-channel.ensures fits in
     c.count.ensures ∙ last_number_is x w (acked_le w _ (sound c.args.from c.args.to calls).there) h
+
+pub returns-clause-count : goal.returns-clause-count
+returns-clause-count g c = grind (arith, elements)

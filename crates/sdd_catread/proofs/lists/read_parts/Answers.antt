@@ -1,0 +1,12 @@
+use Rattle.std.proofs.lemmas.Grind.{common_steps}
+use Rattle.std.proofs.Common.{arith}
+use Rattle.sdd_catread.proofs.lists.read_parts.Goals as goal
+
+pub returns : goal.returns
+returns g c = grind (arith, common_steps)
+
+pub returns-in_err-read : goal.returns-in_err-read
+returns-in_err-read g c = grind (arith, common_steps)
+
+pub tables-preserved : goal.tables-preserved
+tables-preserved g c = grind (arith, common_steps)

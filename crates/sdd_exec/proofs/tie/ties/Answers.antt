@@ -1,0 +1,6 @@
+use Rattle.std.proofs.lemmas.Grind.{common_steps}
+use Rattle.sdd_exec.proofs.All.{arith}
+use Rattle.sdd_exec.proofs.tie.ties.Goals as goal
+
+pub returns : goal.returns
+returns c = grind (arith, common_steps)

@@ -1,0 +1,6 @@
+use Rattle.std.proofs.lemmas.Grind.{elements}
+use Rattle.sdd_net.proofs.All.{arith}
+use Rattle.sdd_net.proofs.net.Net.channel.Goals as goal
+
+pub returns : goal.returns
+returns g c = grind (arith, elements)

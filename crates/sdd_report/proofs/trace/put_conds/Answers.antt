@@ -1,0 +1,9 @@
+use Rattle.std.proofs.lemmas.Grind.{common_steps}
+use Rattle.sdd_report.proofs.All.{arith}
+use Rattle.sdd_report.proofs.trace.put_conds.Goals as goal
+
+pub conds-preserved : goal.conds-preserved
+conds-preserved c = grind (arith, common_steps)
+
+pub returns : goal.returns
+returns c = grind (arith, common_steps)
