@@ -26,6 +26,14 @@ fn report_pages_of(alloc: Global, catalogue: &Catalogue, work: Workload) -> Resu
     }
 }
 
+/// The replies of the workload, run serially, and the copies.
+fn serial_pages(alloc: Global, catalogue: &Catalogue, work: &Workload) -> Result<Pages, Status>
+    requires { IsValid catalogue.now work.now }
+    ensures { MakesText (IsSerialText catalogue.now work.now) (MakesNoRun catalogue.now work.now) result }
+{
+    Ok(Pages::of(alloc, serial_text(alloc, catalogue, work)?))
+}
+
 /// What `plain` answers over the catalogue in the first file and the workload in the second.
 pub fn plain_answer<S: Shelf>(
     alloc: Global,
@@ -39,7 +47,7 @@ pub fn plain_answer<S: Shelf>(
 {
     let catalogue = accepted_catalogue(alloc, shelf, catalogue)?;
     let work = accepted_workload(alloc, shelf, workload, &catalogue)?;
-    Ok(Pages::of(alloc, serial_text(alloc, &catalogue, &work)?))
+    serial_pages(alloc, &catalogue, &work)
 }
 
 /// What `run` answers over the catalogue in the first file and the workload in the second.
@@ -55,6 +63,5 @@ pub fn run_answer<S: Shelf>(
 {
     let catalogue = accepted_catalogue(alloc, shelf, catalogue)?;
     let work = accepted_workload(alloc, shelf, workload, &catalogue)?;
-    let text = report_pages_of(alloc, &catalogue, work)?;
-    Ok(text)
+    report_pages_of(alloc, &catalogue, work)
 }

@@ -1,4 +1,4 @@
-use Rattle.sdd_app.proofs.All.{Err, MAX_REPORT_BYTES, Ok, err_from_is_err_and, judged_as, report_answers, report_first_refused, report_second_refused}
+use Rattle.sdd_app.proofs.All.{MAX_REPORT_BYTES, err_from_is_err_and, judged_as, report_answers, report_first_refused, report_second_refused}
 use Rattle.sdd_app.proofs.judging.verify_answer.Goals as goal
 
 pub returns-in_err-catalogue : goal.returns-in_err-catalogue
@@ -15,14 +15,7 @@ returns-in_err-work g c =
     (report_second_refused MAX_REPORT_BYTES c.args.catalogue.now c.args.workload.now c.args.report.now judged_as _ _ _ c.in_ok-catalogue.catalogue
     c.in_err-work.field-0.0 c.in_ok-catalogue.ensures c.in_err-work.ensures.accepts)
 
-pub returns-in_err-text : goal.returns-in_err-text
-returns-in_err-text g c =
-    let p = err_from_is_err_and c.from_residual-in_err-text.result c.from_residual-in_err-text.ensures.1 in
-    rw (p.1, p.2)
-    (report_answers MAX_REPORT_BYTES c.args.catalogue.now c.args.workload.now c.args.report.now judged_as _ _ _ _ c.in_ok-catalogue.catalogue c.in_ok-work.work
-    c.in_ok-catalogue.ensures c.in_ok-work.ensures.accepts (Err c.in_err-text.field-0.0) c.in_err-text.ensures)
-
 pub returns : goal.returns
 returns g c =
     report_answers MAX_REPORT_BYTES c.args.catalogue.now c.args.workload.now c.args.report.now judged_as _ _ _ _ c.in_ok-catalogue.catalogue c.in_ok-work.work
-    c.in_ok-catalogue.ensures c.in_ok-work.ensures.accepts (Ok c.in_ok-text.text) c.in_ok-text.ensures
+    c.in_ok-catalogue.ensures c.in_ok-work.ensures.accepts c.report_answer.result c.report_answer.ensures

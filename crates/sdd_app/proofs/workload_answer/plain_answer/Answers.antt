@@ -1,4 +1,4 @@
-use Rattle.sdd_app.proofs.All.{Err, IsSerialText, MakesNoRun, NoMemory, Ok, err_from_is_err_and, workload_answers, workload_first_refused, workload_second_refused, ◌∙◌}
+use Rattle.sdd_app.proofs.All.{IsSerialText, MakesNoRun, err_from_is_err_and, workload_answers, workload_first_refused, workload_second_refused}
 use Rattle.sdd_app.proofs.workload_answer.plain_answer.Goals as goal
 
 pub returns-in_err-catalogue : goal.returns-in_err-catalogue
@@ -14,14 +14,7 @@ returns-in_err-work g c =
     (workload_second_refused c.args.catalogue.now c.args.workload.now IsSerialText MakesNoRun _ _ _ c.in_ok-catalogue.catalogue c.in_err-work.field-0.0
     c.in_ok-catalogue.ensures c.in_err-work.ensures.accepts)
 
-pub returns-in_err-serial_text : goal.returns-in_err-serial_text
-returns-in_err-serial_text g c =
-    let p = err_from_is_err_and c.from_residual-in_err-serial_text.result c.from_residual-in_err-serial_text.ensures.1 in
-    rw (p.1, p.2)
-    (workload_answers c.args.catalogue.now c.args.workload.now IsSerialText MakesNoRun _ _ _ c.in_ok-catalogue.catalogue c.in_ok-work.work (Err NoMemory)
-    c.in_ok-catalogue.ensures c.in_ok-work.ensures.accepts tt)
-
 pub returns : goal.returns
 returns g c =
-    workload_answers c.args.catalogue.now c.args.workload.now IsSerialText MakesNoRun _ _ _ c.in_ok-catalogue.catalogue c.in_ok-work.work (Ok c.of.result)
-    c.in_ok-catalogue.ensures c.in_ok-work.ensures.accepts (c.of.ensures ∙ c.in_ok-serial_text.ensures)
+    workload_answers c.args.catalogue.now c.args.workload.now IsSerialText MakesNoRun _ _ _ c.in_ok-catalogue.catalogue c.in_ok-work.work c.serial_pages.result
+    c.in_ok-catalogue.ensures c.in_ok-work.ensures.accepts c.serial_pages.ensures

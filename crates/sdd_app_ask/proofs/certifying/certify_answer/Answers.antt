@@ -1,4 +1,3 @@
-use Rattle.std.proofs.Common.{Err, Ok}
 use Rattle.std.proofs.lemmas.Result.{err_from_is_err_and}
 use Rattle.sdd_certify.specs.Certificate.{certificate}
 use Rattle.sdd_certify.specs.verifying.declared.limits.TheConstants.{MAX_REPORT_BYTES}
@@ -19,14 +18,7 @@ returns-in_err-work g c =
     (report_second_refused MAX_REPORT_BYTES c.args.catalogue.now c.args.workload.now c.args.report.now certificate _ _ _ c.in_ok-catalogue.catalogue
     c.in_err-work.field-0.0 c.in_ok-catalogue.ensures c.in_err-work.ensures.accepts)
 
-pub returns-in_err-text : goal.returns-in_err-text
-returns-in_err-text g c =
-    let p = err_from_is_err_and c.from_residual-in_err-text.result c.from_residual-in_err-text.ensures.1 in
-    rw (p.1, p.2)
-    (report_answers MAX_REPORT_BYTES c.args.catalogue.now c.args.workload.now c.args.report.now certificate _ _ _ _ c.in_ok-catalogue.catalogue c.in_ok-work.work
-    c.in_ok-catalogue.ensures c.in_ok-work.ensures.accepts (Err c.in_err-text.field-0.0) c.in_err-text.ensures)
-
 pub returns : goal.returns
 returns g c =
     report_answers MAX_REPORT_BYTES c.args.catalogue.now c.args.workload.now c.args.report.now certificate _ _ _ _ c.in_ok-catalogue.catalogue c.in_ok-work.work
-    c.in_ok-catalogue.ensures c.in_ok-work.ensures.accepts (Ok c.in_ok-text.text) c.in_ok-text.ensures
+    c.in_ok-catalogue.ensures c.in_ok-work.ensures.accepts c.report_answer.result c.report_answer.ensures

@@ -1,9 +1,7 @@
-use Rattle.std.proofs.Common.{Err, Ok}
 use Rattle.std.proofs.lemmas.Result.{err_from_is_err_and}
 use Rattle.sdd_robust_answer.specs.Answers.{IsRobustAnswer}
 use Rattle.sdd_shell.proofs.Requests.{workload_answers, workload_first_refused, workload_second_refused}
 use Rattle.sdd_shell.specs.OverWorkload.{MakesNoRun}
-use Rattle.sdd_shell.specs.declared.status.Status.TheVariants.{NoMemory}
 use Rattle.sdd_app_ask.proofs.transactions.robust_answer.Goals as goal
 
 pub returns-in_err-catalogue : goal.returns-in_err-catalogue
@@ -19,14 +17,7 @@ returns-in_err-work g c =
     (workload_second_refused c.args.catalogue.now c.args.workload.now IsRobustAnswer MakesNoRun _ _ _ c.in_ok-catalogue.catalogue c.in_err-work.field-0.0
     c.in_ok-catalogue.ensures c.in_err-work.ensures.accepts)
 
-pub returns-in_err-robust_work_text : goal.returns-in_err-robust_work_text
-returns-in_err-robust_work_text g c =
-    let p = err_from_is_err_and c.from_residual-in_err-robust_work_text.result c.from_residual-in_err-robust_work_text.ensures.1 in
-    rw (p.1, p.2)
-    (workload_answers c.args.catalogue.now c.args.workload.now IsRobustAnswer MakesNoRun _ _ _ c.in_ok-catalogue.catalogue c.in_ok-work.work (Err NoMemory)
-    c.in_ok-catalogue.ensures c.in_ok-work.ensures.accepts tt)
-
 pub returns : goal.returns
 returns g c =
-    workload_answers c.args.catalogue.now c.args.workload.now IsRobustAnswer MakesNoRun _ _ _ c.in_ok-catalogue.catalogue c.in_ok-work.work (Ok c.of.result)
-    c.in_ok-catalogue.ensures c.in_ok-work.ensures.accepts (rw c.of.ensures c.in_ok-robust_work_text.ensures)
+    workload_answers c.args.catalogue.now c.args.workload.now IsRobustAnswer MakesNoRun _ _ _ c.in_ok-catalogue.catalogue c.in_ok-work.work c.robust_pages.result
+    c.in_ok-catalogue.ensures c.in_ok-work.ensures.accepts c.robust_pages.ensures
