@@ -1,8 +1,11 @@
 """What `find_tactics.py` reads and writes: the names in a checked module, goals without an answer, files of answers."""
+import os
+import tempfile
 import unittest
 
 import sdd_path  # noqa: F401
-from find_tactics import declared_in, goal_at, goals_without_answer, with_answers
+from find_tactics import command, declared_in, fault_of, goal_at, goals_without_answer, remove_empty, with_answers
+from link_program import Refused
 
 ANSWERS = """use Rattle.demo.proofs.All.{arith, refl}
 use Rattle.demo.proofs.at.find.Goals as goal
@@ -41,7 +44,25 @@ class Goals(unittest.TestCase):
         self.assertEqual(goals_without_answer({"returns", "returns-clause-a"}, "pub returns : goal.returns"), [])
 
 
+class Refusals(unittest.TestCase):
+    def test_a_missing_library_is_named(self):
+        with tempfile.TemporaryDirectory() as folder, self.assertRaisesRegex(Refused, "sdd_base.rlib is missing"):
+            command("sdd_items", folder, os.path.join(folder, "links"))
+
+    def test_the_first_error_is_the_fault(self):
+        self.assertEqual(fault_of("fn demo::f: proved\n./proofs/f/Answers.antt:3:1: error: no\nlogic=not-proved\n"), "./proofs/f/Answers.antt:3:1: error: no")
+        self.assertEqual(fault_of("so far: 3 of 5\nkilled\n\n"), "killed")
+        self.assertEqual(fault_of(""), "it says nothing")
+
+
 class Files(unittest.TestCase):
+    def test_empty_folders_go_and_others_stay(self):
+        with tempfile.TemporaryDirectory() as folder:
+            os.makedirs(os.path.join(folder, "kept", "at", "find"))
+            open(os.path.join(folder, "kept", "All.antt"), "w", encoding="utf-8").close()
+            remove_empty(os.path.join(folder, "kept", "at", "find"))
+            self.assertEqual(os.listdir(os.path.join(folder, "kept")), ["All.antt"])
+
     def test_without_tactics_the_text_stays(self):
         self.assertEqual(with_answers("demo", "at::find", ANSWERS, {}, "c"), ANSWERS)
 

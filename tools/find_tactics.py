@@ -11,6 +11,7 @@ written to proofs/FUNCTION/Answers.antt, and taken back where the function's pro
 FOLDER/CRATE/out/rlib holds the libraries of the crates below, as `rt ci` leaves them; it is crates/ if left out. The
 room keeps what was checked, so that a call which is cut off goes on from there; it is .git/find_tactics if left out.
 Times are those of a clock: nothing else should run. It takes some two to four times what a check of the crate takes.
+It refuses a crate that isn't proved as it stands. Where it is cut off, no answer stays that it was only trying.
 """
 import collections
 import json
@@ -33,7 +34,14 @@ HOMES = {
 GOAL = re.compile(r"(returns|overflow_|nonzero_|bounds-|slice_bounds-|offset_bounds-|invariant_of-|prove-)|.*-(init|preserved|smaller|requires)(-|$)")
 OF_LIFETIMES = ("lives-", "drop-", "branch-", "from_residual-")
 ERROR = re.compile(r"^\./proofs/(\S+)/Answers\.antt:(\d+):\d+: error", re.M)
+PROVED = re.compile(r"^logic=proved ", re.M)
 NOT_PROVED = re.compile(r"^fn \w+::(\S+): (?!proved)", re.M)
+
+
+def fault_of(said):
+    """The first line of what a check says that names an error, or else its last line."""
+    lines = [line for line in said.split("\n") if line.strip()]
+    return next((line for line in lines if "error" in line), lines[-1] if lines else "it says nothing")
 
 
 def dependencies():
@@ -58,11 +66,15 @@ def below(crate, named):
 
 def command(crate, libraries, links):
     """The words of a check of the crate; the folder of links is made anew."""
-    kit, named = kit_folder(), dependencies()
+    named = dependencies()
     shutil.rmtree(links, ignore_errors=True)
     os.makedirs(links)
     for it in below(crate, named):
-        os.symlink(os.path.join(libraries, it, "out", "rlib", it + ".rlib"), os.path.join(links, it + ".rlib"))
+        library = os.path.join(libraries, it, "out", "rlib", it + ".rlib")
+        if not os.path.exists(library):
+            raise Refused("%s is missing: rt ci leaves it once it has proved %s" % (library, it))
+        os.symlink(library, os.path.join(links, it + ".rlib"))
+    kit = kit_folder()
     root = "src/lib.rt" if os.path.exists(os.path.join(ROOT, "crates", crate, "src", "lib.rt")) else "src/main.rt"
     words = [kit + "/bin/rattle", "check", "--crate-name", crate, root, "--extern", "std=%s/rlibs/std.rlib" % kit]
     for it in named[crate]:
@@ -119,6 +131,13 @@ def goal_at(text, line):
     return above[-1] if above else None
 
 
+def remove_empty(folder):
+    """Removes the folder, and each above it that then has nothing in it."""
+    while not os.listdir(folder):
+        os.rmdir(folder)
+        folder = os.path.dirname(folder)
+
+
 class Function:
     def __init__(self, crate, name, names):
         self.crate, self.name = crate, name
@@ -139,6 +158,7 @@ class Function:
                 file.write(text)
         elif os.path.exists(self.path):
             os.remove(self.path)
+            remove_empty(self.folder)
         return text
 
     def chosen(self):
@@ -160,7 +180,10 @@ class Checks:
         if os.path.exists(path):
             with open(path, encoding="utf-8") as file:
                 taken = json.load(file)
-        taken.update(self.check()[1])
+        said, made = self.check()
+        if not PROVED.search(said):
+            raise Refused("%s isn't proved as it stands: %s" % (self.crate, fault_of(said)))
+        taken.update(made)
         with open(path, "w", encoding="utf-8") as file:
             json.dump(taken, file)
         return taken
@@ -222,12 +245,14 @@ def find(checks, functions):
     """Finds the tactics; a second turn is for functions that call others which the first left unproved at times."""
     for _ in range(2):
         later = []
-        for tactic in TACTICS:
-            asked = [it for it in functions if it.open and it not in later]
-            if asked:
-                later += try_tactic(checks, asked, tactic)
-        for it in functions:
-            it.write(it.chosen())
+        try:
+            for tactic in TACTICS:
+                asked = [it for it in functions if it.open and it not in later]
+                if asked:
+                    later += try_tactic(checks, asked, tactic)
+        finally:
+            for it in functions:
+                it.write(it.chosen())
         functions = later
 
 
