@@ -6,7 +6,7 @@ use sdd_rules::{Asked, Clock, Ts};
 use std::collections::VecDeque;
 
 /// Takes away the first ASK that can be answered, where the active attempt has this timestamp or
-/// no attempt is active.
+/// no attempt is active. Takes no memory; costs the length of the queue.
 pub fn take_first(asks: &mut VecDeque<Asked>, active: Option<Ts>) -> Option<Asked>
     ensures taken { result ≡ find (answers (option_map (λ t. t.0) active)) asks.old.items }
     ensures left { asks.new.items ≡ without_first (answers (option_map (λ t. t.0) active)) asks.old.items }
@@ -34,7 +34,7 @@ pub fn answers(active: Option<Ts>, ask: &Asked) -> bool
     }
 }
 
-/// The time of a NULL: the clock's bound, where no attempt is active.
+/// The time of a NULL: the timestamp of the active attempt, or the clock's bound where none is.
 pub fn answer_time(clock: &Clock, active: Option<Ts>) -> Ts
     ensures { result.0 ≡ time_by clock.now (option_map (λ t. t.0) active) }
 {

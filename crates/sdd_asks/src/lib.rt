@@ -1,8 +1,8 @@
 //! The open ASKs of a class of a transaction module: which of them can be answered, and the time of
 //! the NULL that answers one.
 //!
-//! The one contract to the layer above are the definitions of `specs/Asks.antt`; each function is one
-//! of them.
+//! The one contract to the layer above: each function does what one definition of
+//! `specs/Asks.antt` says.
 #![tactic(auto)]
 
 mod asks;

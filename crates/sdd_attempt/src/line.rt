@@ -368,7 +368,8 @@ impl<'a> Line<'a> {
     }
 }
 
-/// Puts an attempt, or none, in the place of the one that is under way.
+/// Puts an attempt, or none, in the place of the one that is under way, which is dropped here, so
+/// that no caller's proof has to say how.
 fn set_running(place: &mut Option<Running>, running: Option<Running>)
     ensures { place.new ≡ running }
 {

@@ -1,13 +1,12 @@
 //! One call of a program, and what it answers.
 ghost use Rattle.std.specs.Prelude.{◌≡◌, IsTrue};
 
-use crate::case::{Case, Program, Taking};
-use crate::text::Text;
 use anyhow::{Result, anyhow};
 use sdd_app::run_sdd1;
 use sdd_app_ask::run_ask;
 use sdd_app_inside::run_inside;
 use sdd_base::{Bytes, CallNos, Files, MemShelf, MemSink, ShelfFile};
+use sdd_case_lines::{Case, Program, Taking, Text};
 use sdd_shell::Status;
 use std::alloc::Global;
 

@@ -31,20 +31,48 @@
 #![tactic(auto)]
 
 mod answer;
-mod case;
-mod input;
 mod printed;
 mod runs;
-mod text;
 
-use anyhow::Result;
+use anyhow::{Context, Result};
+use runs::tell_runs;
+use sdd_case_lines::CaseReader;
+use std::alloc::Global;
 use std::io::{self, BufWriter, Write};
 
 fn main(rt: HostRuntime) -> Result<()> {
     let alloc = rt.alloc();
     let lines = io::read_to_string(alloc, rt.reader())?;
     let mut out = BufWriter::new(alloc, io::writer(&rt))?;
-    input::tell_cases(alloc, lines.as_str(), &mut out)?;
+    tell_cases(alloc, lines.as_str(), &mut out)?;
     out.flush()?;
     Ok(())
+}
+
+/// Runs the cases of the lines one after the other, and writes what they answer.
+fn tell_cases<W: Write>(alloc: Global, lines: &str, out: &mut W) -> Result<()> {
+    let mut reader = CaseReader::new(alloc);
+    for (before, line) in lines.split('\n').enumerate() {
+        take_line(alloc, &mut reader, line, out).context(format_args!(
+            "line {}",
+            before.saturating_add(1)
+        ))?;
+    }
+    match reader.end() {
+        None => Ok(()),
+        Some(case) => tell_runs(alloc, &case, out),
+    }
+}
+
+/// Reads a line, and runs the case that it ends.
+fn take_line<W: Write>(
+    alloc: Global,
+    reader: &mut CaseReader,
+    line: &str,
+    out: &mut W,
+) -> Result<()> {
+    match reader.take(alloc, line)? {
+        None => Ok(()),
+        Some(case) => tell_runs(alloc, &case, out),
+    }
 }

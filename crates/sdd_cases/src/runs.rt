@@ -1,9 +1,8 @@
 //! The runs of a case.
 use crate::answer::{Answer, Run, call};
-use crate::case::{Case, Each};
 use crate::printed::{put_answer, put_name, put_numbers};
-use crate::text::front;
 use anyhow::{Result, bail};
+use sdd_case_lines::{Case, Each, front};
 use sdd_shell::Status;
 use std::alloc::Global;
 use std::io::Write;
@@ -124,7 +123,7 @@ fn add_run<W: Write>(
     answer: Answer,
     out: &mut W,
 ) -> Result<()> {
-    if !joins(group, number, &answer) {
+    if !join(group, number, &answer) {
         put_group(out, group)?;
         *group = Some(Group {
             first: number,
@@ -136,7 +135,7 @@ fn add_run<W: Write>(
 }
 
 /// Counts a run to the group where it answers the same, and says whether it does.
-fn joins(group: &mut Option<Group>, number: usize, answer: &Answer) -> bool {
+fn join(group: &mut Option<Group>, number: usize, answer: &Answer) -> bool {
     match group {
         None => false,
         Some(group) => {

@@ -15,7 +15,7 @@ pub fn home(catalogue: &Catalogue, txn: &Txn) -> Site
     home_in(txn, class_for(catalogue, txn))
 }
 
-/// The same where the class is known. Takes no memory.
+/// The site at which a transaction of this class is submitted. Takes no memory.
 pub fn home_in(txn: &Txn, class: ClassNo) -> Site
     ensures { (catalogue : OfCatalogue) → class.0 ≡ class_for catalogue txn.now
         → result ≡ home_of catalogue (Some txn.now) }

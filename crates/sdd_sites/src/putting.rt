@@ -10,7 +10,7 @@ use sdd_history::{History, Recs};
 use sdd_wire::{Msg, Outs};
 use std::collections::VecDeque;
 
-/// Adds records of an event after the others.
+/// Adds records of an event after the others; out of memory leaves some of them added.
 pub fn record_all(history: &mut History, event: u32, recs: Recs) -> Result<(), NoMemory>
     requires { All (λ earlier. earlier.0 ≤ event) history.old }
     ensures { OnOk result (history.new ≡ history.old ++ map (λ r. (event, r)) recs) }
@@ -40,7 +40,8 @@ fn send_one(net: &mut Mail, at: Site, to: Site, msg: Msg) -> Result<(), WorldEnd
     Ok(())
 }
 
-/// Puts messages on their links, in order, or ends at the first for which there is no number.
+/// Puts messages on their links, in order, or ends at the first for which there is no number, or
+/// out of memory; those before it are sent then. Costs for each message what `Mail::send` does.
 pub fn send_all(net: &mut Mail, at: Site, out: Outs) -> Result<(), WorldEnd>
     requires { (tms : ℕ) × (dms : ℕ) × (calls : List (Call Msg))
         × Carries net.old tms dms calls × AreLinked tms dms at out }

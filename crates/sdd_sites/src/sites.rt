@@ -122,7 +122,8 @@ pub struct Sites<'a> {
 impl<'a> Sites<'a> {
     /// The modules of all sites before the first event. The data modules are given, one for each D
     /// of the whole catalogue in order, as `DataModule::new` made it, each perhaps of rows of its
-    /// own; these classes of the whole catalogue and their protocol table are in force first.
+    /// own; these classes of the whole catalogue and their protocol table are in force first. Costs
+    /// the number of classes and of transaction modules; its one error is out of memory.
     pub fn new(
         alloc: Global,
         whole: &'a Catalogue,

@@ -1,7 +1,7 @@
 -- What the module keeps of the log after each act is what its step leaves.
 use Rattle.sdd_umod.proofs.All.{Act, Attempt, Bases, Commit, Did, Hold, IsApart, IsRequest, Log, None, Queued, Release, Send, Sends, Setting, Some, Start, T, TmNo, [], active, ap, arith, clock, clock_done, commit_act, commit_next, line_done, line_of, map_twice, refl, send_next, sent_apart, start_act, start_next, state_done, state_of, sym, time_at, ℕ, ◌∷◌, ◌≡◌}
 use Rattle.sdd_attempt.specs.wire.declared.msg.Msg.TheVariants as messages
-use Rattle.sdd_umod.specs.declared.tm_count.Sign.TheVariants as signs
+use Rattle.sdd_counts.specs.declared.tm_count.Sign.TheVariants as signs
 
 -- the next message of the exchange
 pub after_request : (s : Setting) (bases : Bases) (log : Log) (a : Attempt) (act : Act) → IsRequest 0 a act

@@ -1,7 +1,7 @@
 -- What is due by a log is what the module does next by what it keeps of it.
 use Rattle.sdd_umod.proofs.All.{Act, Bases, Bool, Catalogue, Commit, Hold, IsWhole, LineStep, List, Log, None, Option, Queued, Release, Send, Sends, Setting, Some, Start, State, Step, T, TmCounts, ToCommit, ToSend, View, [], act_of, active, ap, arith, attempt_due, false, find, first_found, first_found_if, first_some, head_is_untried, head_of, hold_due, hold_step, if◌then◌else◌, is_applied, is_empty, is_free, is_kept_on_hold, line_step, list_all, may_start, nat_tests, next, none_due, of_line, option_map, or_nothing, queue, refl, release_due, release_step, start_act, start_due, start_step, state_of, step_of, subst, sym, time_at, tm_no, tm_of, true, view_of, ◌&&◌, ◌==◌, ◌∙◌, ◌∷◌, ◌≡◌, ◌≤◌}
 use Rattle.sdd_attempt.specs.wire.declared.msg.Msg.TheVariants as messages
-use Rattle.sdd_rules.specs.umod.Due as table
+use Rattle.sdd_counts.specs.rules.umod.Due as table
 
 -- a step of the module
 

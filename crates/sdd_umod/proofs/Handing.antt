@@ -2,9 +2,9 @@
 use Rattle.sdd_umod.proofs.All.{Attempt, AwaitsAt, Bases, Bool, Handed, HaveRoom, InTurn, IsAmid, IsAwaited, IsEarly, IsKept, IsSetting, IsSoundLog, Line, List, Log, Msg, None, Option, Phase, Served, Setting, Site, State, Ticking, TmCounts, Values, active, active_handed, ap, arith, clock, clock_after_message, counts, counts_tm, fetches_use, few_waiting, fits, fits_kind, get_map_of, last_served, left_is_few, line_handed, line_of, line_step, map, map_twice, no_sooner_hand, numbers_to, of_line, or_nothing, pushed_by, queue, refl, resting, running, served_after_message, served_handed, stamped_still, started, starts_left, state_handed, state_of, step_of, submits, subst, ℕ, ◌+◌, ◌<◌, ◌^◌, ◌∙◌, ◌∷◌, ◌≡◌, ◌≤◌}
 use Rattle.sdd_umod.proofs.Dues.{line_none}
 use Rattle.sdd_umod.proofs.Turns.{turn_held}
-use Rattle.sdd_rules.specs.umod.State.{served_of}
-use Rattle.sdd_umod.specs.declared.tm_count.Sign.TheVariants as signs
-use Rattle.sdd_rules.proofs.umod.Counts.{commits_same}
+use Rattle.sdd_counts.specs.rules.umod.State.{served_of}
+use Rattle.sdd_counts.specs.declared.tm_count.Sign.TheVariants as signs
+use Rattle.sdd_counts.proofs.rules.umod.Counts.{commits_same}
 
 -- what is kept of the log
 

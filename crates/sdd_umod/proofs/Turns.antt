@@ -1,8 +1,8 @@
 -- HOLDs, HELDs and RELEASEs of each T stay in turn, and a Commit had its Start.
 use Rattle.sdd_umod.proofs.All.{Held, InTurn, Log, TmCounts, ap, arith, commits, counted, counts, nat_tests, suc, sym, ℕ, ◌<◌, ◌∙◌, ◌≡◌}
-use Rattle.sdd_rules.specs.All.{Hold, Release}
-use Rattle.sdd_umod.specs.declared.tm_count.Sign.TheVariants as signs
-use Rattle.sdd_rules.proofs.umod.Counts.{counts_tm}
+use Rattle.sdd_counts.specs.rules.All.{Hold, Release}
+use Rattle.sdd_counts.specs.declared.tm_count.Sign.TheVariants as signs
+use Rattle.sdd_counts.proofs.rules.umod.Counts.{counts_tm}
 
 -- one message more, of the T that has so many
 

@@ -2,7 +2,7 @@
 use Rattle.sdd_umod.proofs.All.{Act, Attempt, Bases, Bool, Commit, Hold, InTurn, IsAmid, IsOfHead, List, Log, None, Option, Queued, Release, Send, Setting, Some, Start, State, Step, Ticking, TmCounts, ToCommit, ToSend, [], active, active_after, all_signs, ap, arith, asking_of, begins, clock, commit_act, commit_next, commits, counted, counts, eq-eqb, eqb-true, fewer_committed, filter, find, found_in_map, handed, has_to_send, head_of, is_free, is_kept_on_hold, last_served, length, line_of, line_step, ltb-true, map, not, numbers_to, option_map, queue, queue_after, refl, request_of, sends_of_act, sent, signs_left, start_act, start_next, started, starts_committed, starts_started, state_done, state_of, step_of, subst, suc, ticked, timestamp, tried, true, work, work_of, work_sent, ℕ, ◌+◌, ◌<◌, ◌==◌, ◌∷◌, ◌≡◌, ◌≤◌}
 use Rattle.sdd_umod.proofs.Dues.{IsStep, sends, commits_now, releases, starts, holds, step_is}
 use Rattle.sdd_umod.proofs.Acting.{first_of}
-use Rattle.sdd_umod.specs.declared.tm_count.Sign.TheVariants as signs
+use Rattle.sdd_counts.specs.declared.tm_count.Sign.TheVariants as signs
 
 -- HOLDs and RELEASEs
 

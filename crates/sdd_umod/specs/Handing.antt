@@ -1,10 +1,11 @@
 -- What becomes of what the module keeps when a message is handed to it, or a transaction is given to it.
-use Rattle.std.specs.Prelude.{ℕ, ◌+◌, ◌/◌, ◌<◌, ◌^◌, ◌==◌, if◌then◌else◌, List, [], ◌∷◌, ◌++◌, map}
-use Rattle.sdd_rules.specs.All.{Done, Held, Msg, Site, T, Ticking, Txn, active_handed, pushed}
-use Rattle.sdd_umod.specs.declared.tm_count.Sign.TheVariants as signs
-use Rattle.sdd_rules.specs.umod.Views.{Served, TmCounts}
-use Rattle.sdd_rules.specs.umod.State.{State, as_counted}
-use Rattle.sdd_umod.specs.Steps.{counted}
+use Rattle.std.specs.Prelude.{ℕ, ◌/◌, ◌<◌, ◌^◌, List, [], ◌∷◌, ◌++◌, map}
+use Rattle.sdd_counts.specs.rules.All.{Done, Held, Msg, Site, T, Ticking, Txn, active_handed, pushed}
+use Rattle.sdd_counts.specs.Counts.{counted}
+use Rattle.sdd_counts.specs.Serving.{done_after_message}
+use Rattle.sdd_counts.specs.declared.tm_count.Sign.TheVariants as signs
+use Rattle.sdd_counts.specs.rules.umod.Views.{Served, TmCounts}
+use Rattle.sdd_counts.specs.rules.umod.State.{State}
 
 -- a message: of those that come to the module a HELD alone pushes its clock
 
@@ -16,10 +17,6 @@ clock_after_message _ k = k
 abbrev pub IsEarly : Msg → Type 0
 IsEarly (Held time) = time.0 / 64 < 2 ^ 57
 IsEarly _ = Unit {0}
-
--- one DONE more for the attempt with this timestamp
-abbrev pub done_after_message : ℕ → Served → Served
-done_after_message ts served = if ts == served.ts then record served { dones = as_counted (served.dones + 1) } else served
 
 abbrev pub served_after_message : Msg → Served → Served
 served_after_message (Done ts) served = done_after_message ts.0 served

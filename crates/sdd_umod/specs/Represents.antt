@@ -1,10 +1,10 @@
 -- Which logs the module for undeclared transactions represents, and what holds between the acts of a call.
 use Rattle.std.specs.Prelude.{ℕ, suc, ◌+◌, ◌<◌, ◌≤◌, ◌^◌, ◌≡◌, IsTrue, Option, Some, None}
 use Rattle.sdd_attempt.specs.All.{AreStamped, IsLineOf, IsServed}
-use Rattle.sdd_rules.specs.All.{Attempt, Bases, IsDatabase, IsWhole, Kept, Log, Setting, active, clock, starts_left}
+use Rattle.sdd_counts.specs.rules.All.{Attempt, Bases, IsDatabase, IsWhole, Kept, Log, Setting, active, clock, starts_left}
 use Rattle.sdd_attempt.specs.catalog.Rules as catalogues
-use Rattle.sdd_rules.specs.umod.Views.{TmCounts, counts, last_served}
-use Rattle.sdd_rules.specs.umod.State.{State, state_of}
+use Rattle.sdd_counts.specs.rules.umod.Views.{TmCounts, counts, last_served}
+use Rattle.sdd_counts.specs.rules.umod.State.{State, state_of}
 use Rattle.sdd_umod.specs.Steps.{step_of}
 
 -- every log of the site

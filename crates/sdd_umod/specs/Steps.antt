@@ -1,17 +1,18 @@
 -- What the module does next by itself, the act that it is, and what becomes of what it keeps.
-use Rattle.std.specs.Prelude.{ℕ, suc, nat_lt, ◌==◌, Bool, ◌&&◌, if◌then◌else◌, [], map, find, Option, Some, None, option_map}
+use Rattle.std.specs.Prelude.{Bool, ◌&&◌, if◌then◌else◌, [], map, find, Option, Some, None, option_map}
 use Rattle.std.specs.List.{list_all}
-use Rattle.sdd_rules.specs.All.{Act, Bases, Sends, T, is_empty, or_else, time_at}
+use Rattle.sdd_counts.specs.rules.All.{Act, Bases, Sends, T, is_empty, or_else, time_at}
 use Rattle.sdd_attempt.specs.All.{clock_done, commit_next, head_is_untried, line_done, line_step, send_next, start_next}
 use Rattle.sdd_attempt.specs.wire.declared.msg.Msg.TheVariants as messages
 use Rattle.sdd_attempt.specs.running.declared.step.LineStep.{LineStep}
 use Rattle.sdd_attempt.specs.running.declared.step.LineStep.TheVariants.{Sends as ToSend, Commits as ToCommit}
 use Rattle.sdd_umod.specs.declared.step.Step.{Step}
 use Rattle.sdd_umod.specs.declared.step.Step.TheVariants.{Send, Commit, Release, Start, Hold}
-use Rattle.sdd_umod.specs.declared.tm_count.Sign.{Sign}
-use Rattle.sdd_umod.specs.declared.tm_count.Sign.TheVariants as signs
-use Rattle.sdd_rules.specs.umod.Views.{Served, TmCounts, tm_of, ts_of, turn}
-use Rattle.sdd_rules.specs.umod.State.{State}
+use Rattle.sdd_counts.specs.Counts.{counted, is_free, is_holding, is_kept_on_hold}
+use Rattle.sdd_counts.specs.Serving.{committed, is_applied}
+use Rattle.sdd_counts.specs.declared.tm_count.Sign.TheVariants as signs
+use Rattle.sdd_counts.specs.rules.umod.Views.{tm_of, ts_of, turn}
+use Rattle.sdd_counts.specs.rules.umod.State.{State}
 
 -- the next step
 
@@ -20,32 +21,16 @@ of_line None = None
 of_line (Some ToSend) = Some Send
 of_line (Some ToCommit) = Some Commit
 
--- every data module, of so many, has applied the WRITE of the last Commit
-abbrev pub is_applied : ℕ → Served → Bool
-is_applied dms served = served.dones == dms
-
--- a T waits for its RELEASE
-abbrev pub is_kept_on_hold : ℕ → TmCounts → Bool
-is_kept_on_hold commits k = nat_lt k.releases commits
-
 abbrev pub release_step : State → Option Step
 release_step state =
     if is_applied state.line.catalogue.dms state.served
     then option_map Release (option_map tm_of (find (is_kept_on_hold state.served.commits) state.counts)) else None
-
--- a T holds for the transaction of this number, and has said so
-abbrev pub is_holding : ℕ → TmCounts → Bool
-is_holding n k = (k.holds == n) && (k.helds == n)
 
 abbrev pub may_start : State → Bool
 may_start state = head_is_untried state.line.queue && list_all (is_holding (turn state.served)) state.counts
 
 abbrev pub start_step : State → Option Step
 start_step state = if may_start state then Some Start else None
-
--- each HOLD to a T was followed by a RELEASE
-abbrev pub is_free : TmCounts → Bool
-is_free k = k.releases == k.holds
 
 abbrev pub hold_step : State → Option Step
 hold_step state = if is_empty state.line.queue then None else option_map Hold (option_map tm_of (find is_free state.counts))
@@ -64,16 +49,6 @@ act_of bases state Start = start_next [] state.clock state.line
 act_of bases state (Hold tm) = Some (Sends (T tm) messages.Hold None)
 
 -- what becomes of the module
-
--- one message more to or from the T of a number
-abbrev pub counted : Sign → ℕ → TmCounts → TmCounts
-counted signs.Hold n k = if n == k.tm then record k { holds = suc k.holds } else k
-counted signs.Held n k = if n == k.tm then record k { helds = suc k.helds } else k
-counted signs.Release n k = if n == k.tm then record k { releases = suc k.releases } else k
-
--- one Commit more, of an attempt with this timestamp
-abbrev pub committed : ℕ → Served → Served
-committed ts served = record { commits = suc served.commits; ts = ts; dones = 0 }
 
 abbrev pub state_done : Bases → Step → State → State
 state_done bases Send state = record state { line = line_done (send_next state.line.active) state.line }

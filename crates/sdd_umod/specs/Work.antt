@@ -1,8 +1,8 @@
 -- How much the module has left to do before the next message comes.
 use Rattle.std.specs.Prelude.{ℕ, suc, ◌+◌, ◌-◌, List, [], ◌∷◌, length}
-use Rattle.sdd_rules.specs.All.{work_of}
-use Rattle.sdd_rules.specs.umod.Views.{TmCounts}
-use Rattle.sdd_rules.specs.umod.State.{State}
+use Rattle.sdd_counts.specs.rules.All.{work_of}
+use Rattle.sdd_counts.specs.rules.umod.Views.{TmCounts}
+use Rattle.sdd_counts.specs.rules.umod.State.{State}
 
 -- of one T: the RELEASEs and HOLDs that it may still get, where there are so many transactions, served or to be served
 abbrev pub signs_left : ℕ → TmCounts → ℕ

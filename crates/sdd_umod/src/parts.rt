@@ -1,28 +1,28 @@
 ghost use Rattle.std.specs.Prelude.{◌≡◌, ◌<◌, ◌+◌, ◌^◌, ◌++◌, ◌∷◌, [], ℕ, filter_map, map, option_map, IfOk, OnOk, IsTrue, Some, None};
 ghost use Rattle.std.specs.List.{list_any};
 ghost use Rattle.sdd_attempt.specs.All.{AreTried, ServesAt, commit_next};
-ghost use Rattle.sdd_rules.specs.All.{Bases, IsDatabase, Log, Setting, T, bound_of, nothing_noted, numbers_to, time_at, with_due_act};
+ghost use Rattle.sdd_counts.specs.rules.All.{Bases, IsDatabase, Log, Setting, T, bound_of, nothing_noted, numbers_to, time_at, with_due_act};
 ghost use Rattle.sdd_attempt.specs.wire.declared.msg.Msg.TheVariants as messages;
-ghost use Rattle.sdd_rules.specs.declared.standing.Standing.TheVariants.{Queued};
-ghost use Rattle.sdd_rules.specs.umod.Fits.{fits, FitsSubmit};
+ghost use Rattle.sdd_counts.specs.rules.declared.standing.Standing.TheVariants.{Queued};
+ghost use Rattle.sdd_counts.specs.rules.umod.Fits.{fits, FitsSubmit};
 ghost use Rattle.sdd_umod.specs.Handing.{IsEarly, with_counted_message, held_from, state_handed, state_given};
 ghost use Rattle.sdd_umod.specs.Represents.{IsKept, IsAmid};
-ghost use Rattle.sdd_rules.specs.umod.Standing.{first_underway, is_awaiting_helds, missing_site, unheld_by, standing_in};
-ghost use Rattle.sdd_umod.specs.Steps.{act_of, counted, hold_step, is_kept_on_hold, may_start, release_step, state_done, step_of};
-ghost use Rattle.sdd_rules.specs.umod.Views.{turn};
-ghost use Rattle.sdd_umod.specs.Works.{first_state, no_counts, HaveRoom, Works};
+ghost use Rattle.sdd_counts.specs.rules.umod.Standing.{first_underway, is_awaiting_helds, missing_site, unheld_by, standing_in};
+ghost use Rattle.sdd_umod.specs.Steps.{act_of, hold_step, may_start, release_step, state_done, step_of};
+ghost use Rattle.sdd_counts.specs.rules.umod.Views.{turn};
+ghost use Rattle.sdd_umod.specs.Works.{first_state, Works};
 ghost use Rattle.sdd_umod.specs.declared.step.Step.TheVariants.{Commit, Hold, Release, Start};
-ghost use Rattle.sdd_umod.specs.declared.tm_count.Sign.TheVariants as signs;
+ghost use Rattle.sdd_counts.specs.Counts.{HaveRoom, counted, is_kept_on_hold, no_counts};
+ghost use Rattle.sdd_counts.specs.declared.tm_count.Sign.TheVariants as signs;
 
-use crate::serving::Serving;
 use crate::step::Step;
-use crate::tm_count::{
-    Sign, TmCount, all_hold, all_missing, any_asked_to_hold, any_on_hold, count, first_free,
-    first_missing, first_on_hold,
-};
 use sdd_attempt::{
     Catalogue, ClassNo, Clock, Draft, Line, LineStep, Msg, NoMemory, Site, Standing, TmNo, Ts, Txn,
     TxnNo,
+};
+use sdd_counts::{
+    Serving, Sign, TmCount, all_hold, all_missing, any_asked_to_hold, any_on_hold, count,
+    first_free, first_missing, first_on_hold,
 };
 use std::alloc::Global;
 use std::marker::Model;
@@ -40,7 +40,7 @@ pub(crate) struct Parts<'a> {
 }
 
 impl<'a> Model for Parts<'a> {
-    ghost use Rattle.sdd_rules.specs.umod.State.{State};
+    ghost use Rattle.sdd_counts.specs.rules.umod.State.{State};
     ghost use Rattle.std.specs.Prelude.{◌≡◌};
 
     ghost Value = { State };

@@ -1,13 +1,13 @@
 ghost use Rattle.std.specs.Prelude.{◌≡◌, ◌∷◌, [], List, filter_map, IfOk, OnErr, IsTrue};
 ghost use Rattle.std.specs.List.{list_any};
-ghost use Rattle.sdd_rules.specs.All.{Bases, Does, Log, Rec as Record, Setting, Submits, U, bound_of};
+ghost use Rattle.sdd_counts.specs.rules.All.{Bases, Does, Log, Rec as Record, Setting, Submits, U, bound_of};
 ghost use Rattle.sdd_attempt.specs.history.declared.record.Rec.TheVariants.{Submit};
-ghost use Rattle.sdd_rules.specs.umod.Due.{next};
-ghost use Rattle.sdd_rules.specs.umod.Fits.{fits, FitsSubmit};
-ghost use Rattle.sdd_rules.specs.umod.Standing.{is_awaiting_helds, standing_in, unheld_by};
+ghost use Rattle.sdd_counts.specs.rules.umod.Due.{next};
+ghost use Rattle.sdd_counts.specs.rules.umod.Fits.{fits, FitsSubmit};
+ghost use Rattle.sdd_counts.specs.rules.umod.Standing.{is_awaiting_helds, standing_in, unheld_by};
 ghost use Rattle.sdd_umod.specs.Represents.{Represents};
-ghost use Rattle.sdd_umod.specs.Steps.{is_kept_on_hold};
-ghost use Rattle.sdd_rules.specs.umod.Views.{turn};
+ghost use Rattle.sdd_counts.specs.Counts.{is_kept_on_hold};
+ghost use Rattle.sdd_counts.specs.rules.umod.Views.{turn};
 
 use crate::parts::Parts;
 use sdd_attempt::{
@@ -25,8 +25,8 @@ pub struct UModule<'a> {
 }
 
 impl<'a> Model for UModule<'a> {
-    ghost use Rattle.sdd_rules.specs.All.{Kept};
-    ghost use Rattle.sdd_rules.specs.umod.State.{State};
+    ghost use Rattle.sdd_counts.specs.rules.All.{Kept};
+    ghost use Rattle.sdd_counts.specs.rules.umod.State.{State};
 
     ghost Value = { Kept State };
 

@@ -5,7 +5,8 @@ use sdd_base::{Listed, NoMemory, Parcel, Value};
 use std::alloc::Global;
 use std::collections::BTreeSet;
 
-/// Puts values into the union.
+/// Puts values into the union. Out of memory leaves some of them in it. Costs for each value a
+/// search among those that are there.
 pub fn unite(union: &mut BTreeSet<Value>, values: Listed<Value>) -> Result<(), NoMemory>
     ensures { OnOk result (union.new.keys ≡ with_values union.old.keys values) }
 {
@@ -15,7 +16,7 @@ pub fn unite(union: &mut BTreeSet<Value>, values: Listed<Value>) -> Result<(), N
     Ok(())
 }
 
-/// The values of a set, ascending.
+/// The values of a set, ascending, each copied; its one error is out of memory.
 pub fn list_values(alloc: Global, values: &BTreeSet<Value>) -> Result<Listed<Value>, NoMemory>
     ensures { IfOk result (λ list. list ≡ values.now.keys) }
 {

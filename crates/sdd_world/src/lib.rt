@@ -7,7 +7,7 @@
 //! copies (`tables`) and what is pending (`pending`). What `sites`, `mail`, `is_down` and
 //! `count_handed` tell holds between any two events, also within a round.
 //!
-//! The modules as one and the network are those of `sdd_sites`.
+//! The modules of all sites and the network between them are those of `sdd_sites`.
 #![tactic(auto)]
 
 mod commits;

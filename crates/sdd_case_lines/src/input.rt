@@ -1,10 +1,8 @@
-//! The reader of the input: it takes line after line, and runs a case once it is whole.
+//! The reader of the lines.
 use crate::case::Case;
-use crate::runs::tell_runs;
 use crate::text::Text;
 use anyhow::{Context, Result, bail, ensure};
 use std::alloc::Global;
-use std::io::Write;
 
 /// Where the lines of a text go.
 #[derive(Clone, Copy)]
@@ -19,68 +17,71 @@ enum Place {
 
 /// What was read so far.
 #[derive(Drop)]
-struct Input {
+pub struct CaseReader {
     kept: Vec<Text>,
     names: Vec<String>,
     case: Option<Case>,
     place: Place,
 }
 
-/// Runs the cases of the lines one after the other, and writes what they answer.
-pub fn tell_cases<W: Write>(alloc: Global, lines: &str, out: &mut W) -> Result<()> {
-    let mut input = Input {
-        kept: Vec::new(alloc),
-        names: Vec::new(alloc),
-        case: None,
-        place: Place::Nowhere,
-    };
-    input.take_all(alloc, lines, out)
-}
-
-impl Input {
-    fn take_all<W: Write>(&mut self, alloc: Global, lines: &str, out: &mut W) -> Result<()> {
-        for (before, line) in lines.split('\n').enumerate() {
-            self.take(alloc, line, out)
-                .context(format_args!("line {}", before.saturating_add(1)))?;
+impl CaseReader {
+    /// Before the first line.
+    pub fn new(alloc: Global) -> Self {
+        CaseReader {
+            kept: Vec::new(alloc),
+            names: Vec::new(alloc),
+            case: None,
+            place: Place::Nowhere,
         }
-        self.tell_case(alloc, out)
     }
 
-    fn take<W: Write>(&mut self, alloc: Global, line: &str, out: &mut W) -> Result<()> {
+    /// Takes the next line, and gives the case that it ends, where it ends one.
+    pub fn take(&mut self, alloc: Global, line: &str) -> Result<Option<Case>> {
         if line.is_empty() || line.starts_with("#") {
-            return Ok(());
+            return Ok(None);
         }
         match line.split_once(' ') {
-            Some(("keep", name)) => {
-                self.tell_case(alloc, out)?;
-                self.begin_kept(alloc, name)
+            Some(("keep", name)) => self.begin_kept(alloc, name),
+            Some(("case", name)) => self.begin_case(alloc, name),
+            _ => {
+                self.take_within(alloc, line)?;
+                Ok(None)
             }
-            Some(("case", name)) => {
-                self.tell_case(alloc, out)?;
-                self.begin_case(alloc, name)
-            }
+        }
+    }
+
+    /// The case that the end of the text ends, where it ends one.
+    pub fn end(&mut self) -> Option<Case> {
+        self.case.take()
+    }
+
+    /// Takes a line of a case or of a text.
+    fn take_within(&mut self, alloc: Global, line: &str) -> Result<()> {
+        match line.split_once(' ') {
             Some(("text", name)) => self.begin_file(alloc, name),
             Some(("file", names)) => self.add_file(alloc, names),
             _ => self.take_other(alloc, line),
         }
     }
 
-    fn begin_kept(&mut self, alloc: Global, name: &str) -> Result<()> {
+    /// Begins a kept text, and gives the case before it.
+    fn begin_kept(&mut self, alloc: Global, name: &str) -> Result<Option<Case>> {
         ensure!(self.kept_text(name).is_none(), "a second text of this name");
         self.kept.push(Text::new(alloc, name)?)?;
         self.place = Place::Kept;
-        Ok(())
+        Ok(self.case.take())
     }
 
-    fn begin_case(&mut self, alloc: Global, name: &str) -> Result<()> {
+    /// Begins a case, and gives the one before it.
+    fn begin_case(&mut self, alloc: Global, name: &str) -> Result<Option<Case>> {
         ensure!(
             self.names.iter().all(|other| other.as_str() != name),
             "a second case of this name"
         );
         self.names.push(String::from_str(alloc, name)?)?;
-        self.case = Some(Case::new(alloc, name)?);
+        let begun = Case::new(alloc, name)?;
         self.place = Place::Nowhere;
-        Ok(())
+        Ok(self.case.replace(begun))
     }
 
     fn begin_file(&mut self, alloc: Global, name: &str) -> Result<()> {
@@ -133,14 +134,6 @@ impl Input {
 
     fn kept_text(&self, name: &str) -> Option<&Text> {
         self.kept.iter().find(|text| text.name.as_str() == name)
-    }
-
-    /// Runs the case that is whole, where there is one.
-    fn tell_case<W: Write>(&mut self, alloc: Global, out: &mut W) -> Result<()> {
-        match self.case.take() {
-            None => Ok(()),
-            Some(case) => tell_runs(alloc, &case, out),
-        }
     }
 }
 

@@ -1,16 +1,14 @@
 ghost use Rattle.std.specs.Prelude.{◌≡◌, ◌<◌, ◌+◌, ◌^◌};
-ghost use Rattle.sdd_umod.specs.Handing.{done_after_message};
-ghost use Rattle.sdd_umod.specs.Steps.{committed, is_applied};
 ghost use Rattle.sdd_rules.specs.umod.Views.{turn};
-ghost use Rattle.sdd_umod.specs.Works.{nothing_served};
+ghost use Rattle.sdd_counts.specs.Serving.{committed, done_after_message, is_applied, nothing_served};
 
-use sdd_attempt::Ts;
+use sdd_rules::Ts;
 use std::marker::Model;
 
 /// How many attempts committed, the timestamp of the last, and how many data modules said that
 /// they applied it.
 #[derive(Drop)]
-pub(crate) struct Serving {
+pub struct Serving {
     commits: u64,
     ts: Ts,
     dones: u32,
@@ -29,7 +27,7 @@ impl Model for Serving {
 
 impl Serving {
     /// Nothing was served yet.
-    pub(crate) fn new() -> Serving
+    pub fn new() -> Serving
         ensures { result ≡ nothing_served }
     {
         Serving {
@@ -40,35 +38,35 @@ impl Serving {
     }
 
     /// How many attempts committed.
-    pub(crate) fn commits(&self) -> u64
+    pub fn commits(&self) -> u64
         ensures { result ≡ self.now.commits }
     {
         self.commits
     }
 
     /// The number of the transaction that is served next, from 1.
-    pub(crate) fn turn(&self) -> u64
+    pub fn turn(&self) -> u64
         ensures { result ≡ turn self.now }
     {
         self.commits + 1
     }
 
     /// The timestamp of the last one.
-    pub(crate) fn ts(&self) -> Ts
+    pub fn ts(&self) -> Ts
         ensures { result.0 ≡ self.now.ts }
     {
         self.ts
     }
 
     /// Whether all of so many data modules applied it.
-    pub(crate) fn is_applied(&self, dms: u32) -> bool
+    pub fn is_applied(&self, dms: u32) -> bool
         ensures { result ≡ is_applied dms self.now }
     {
         self.dones == dms
     }
 
     /// Counts the Commit of the attempt with this timestamp.
-    pub(crate) fn commit(&mut self, ts: Ts)
+    pub fn commit(&mut self, ts: Ts)
         requires { self.old.commits + 1 < 2 ^ 60 }
         ensures { self.new ≡ committed ts.0 self.old }
     {
@@ -78,7 +76,7 @@ impl Serving {
     }
 
     /// Counts a DONE for the attempt with this timestamp, where that is the last one.
-    pub(crate) fn done(&mut self, ts: Ts)
+    pub fn done(&mut self, ts: Ts)
         ensures { self.new ≡ done_after_message ts.0 self.old }
     {
         if ts.0 == self.ts.0 {

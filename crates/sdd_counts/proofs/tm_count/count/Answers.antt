@@ -1,6 +1,6 @@
 -- One more is counted.
-use Rattle.sdd_umod.proofs.All.{ap, changed_more, counted, sym, ◌∙◌}
-use Rattle.sdd_umod.proofs.tm_count.count.Goals as goal
+use Rattle.sdd_counts.proofs.All.{ap, changed_more, counted, sym, ◌∙◌}
+use Rattle.sdd_counts.proofs.tm_count.count.Goals as goal
 
 pub loop-one-preserved : goal.loop-one-preserved
 loop-one-preserved c =

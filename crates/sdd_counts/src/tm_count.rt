@@ -1,17 +1,16 @@
 ghost use Rattle.std.specs.Prelude.{◌≡◌, filter_map, find, map, option_map, IfOk};
 ghost use Rattle.std.specs.List.{list_all, list_any};
-ghost use Rattle.sdd_umod.specs.Steps.{counted, is_free, is_holding, is_kept_on_hold};
+ghost use Rattle.sdd_counts.specs.Counts.{HasRoom, HaveRoom, counted, is_free, is_holding, is_kept_on_hold, no_counts};
 ghost use Rattle.sdd_rules.specs.umod.Views.{tm_of};
 ghost use Rattle.sdd_rules.specs.umod.Standing.{is_asked_to_hold, lacks_held, unheld_by};
-ghost use Rattle.sdd_umod.specs.Works.{no_counts, HasRoom, HaveRoom};
 
-use sdd_attempt::{NoMemory, TmNo};
+use sdd_rules::{NoMemory, TmNo};
 use std::alloc::Global;
 use std::marker::Model;
 
 /// A message between the module and a transaction module.
 #[derive(Clone, Copy)]
-pub(crate) enum Sign {
+pub enum Sign {
     Hold,
     Held,
     Release,
@@ -20,7 +19,7 @@ pub(crate) enum Sign {
 /// Of one transaction module: how many HOLDs and RELEASEs were sent to it, and how many HELDs came
 /// from it.
 #[derive(Drop)]
-pub(crate) struct TmCount {
+pub struct TmCount {
     tm: TmNo,
     holds: u64,
     helds: u64,
@@ -37,7 +36,7 @@ impl Model for TmCount {
 
 impl TmCount {
     /// Of a transaction module with which nothing was exchanged yet.
-    pub(crate) fn new(tm: TmNo) -> TmCount
+    pub fn new(tm: TmNo) -> TmCount
         ensures { result ≡ no_counts tm.0 }
     {
         TmCount {
@@ -49,28 +48,28 @@ impl TmCount {
     }
 
     /// The transaction module.
-    pub(crate) fn tm(&self) -> TmNo
+    pub fn tm(&self) -> TmNo
         ensures { result.0 ≡ self.now.tm }
     {
         self.tm
     }
 
     /// Whether a RELEASE for one of so many Commits is still to be sent.
-    pub(crate) fn is_kept_on_hold(&self, commits: u64) -> bool
+    pub fn is_kept_on_hold(&self, commits: u64) -> bool
         ensures { result ≡ is_kept_on_hold commits self.now }
     {
         self.releases < commits
     }
 
     /// Whether it was asked to hold for the transaction of this number.
-    pub(crate) fn is_asked_to_hold(&self, turn: u64) -> bool
+    pub fn is_asked_to_hold(&self, turn: u64) -> bool
         ensures { result ≡ is_asked_to_hold turn self.now }
     {
         self.holds == turn
     }
 
     /// Whether its HELD for the transaction of this number is missing.
-    pub(crate) fn lacks_held(&self, turn: u64) -> bool
+    pub fn lacks_held(&self, turn: u64) -> bool
         ensures { result ≡ lacks_held turn self.now }
     {
         self.helds != turn
@@ -88,14 +87,14 @@ impl TmCount {
     }
 
     /// Whether it holds for the transaction of this number, and has said so.
-    pub(crate) fn is_holding(&self, turn: u64) -> bool
+    pub fn is_holding(&self, turn: u64) -> bool
         ensures { result ≡ is_holding turn self.now }
     {
         self.holds == turn && self.helds == turn
     }
 
     /// Whether each HOLD was followed by a RELEASE.
-    pub(crate) fn is_free(&self) -> bool
+    pub fn is_free(&self) -> bool
         ensures { result ≡ is_free self.now }
     {
         self.releases == self.holds
@@ -118,7 +117,7 @@ impl TmCount {
 }
 
 /// Counts a message to or from the transaction module with this number.
-pub(crate) fn count(counts: &mut [TmCount], sign: Sign, tm: TmNo)
+pub fn count(counts: &mut [TmCount], sign: Sign, tm: TmNo)
     requires { HaveRoom counts.old }
     ensures { counts.new ≡ map (counted sign tm.0) counts.old }
 {
@@ -128,7 +127,7 @@ pub(crate) fn count(counts: &mut [TmCount], sign: Sign, tm: TmNo)
 }
 
 /// The first transaction module for which a RELEASE for one of so many Commits is still to be sent.
-pub(crate) fn first_on_hold(counts: &[TmCount], commits: u64) -> Option<TmNo>
+pub fn first_on_hold(counts: &[TmCount], commits: u64) -> Option<TmNo>
     ensures { result ≡ option_map tm_of (find (is_kept_on_hold commits) counts.now) }
 {
     match counts.iter().find(|one| one.is_kept_on_hold(commits)) {
@@ -138,7 +137,7 @@ pub(crate) fn first_on_hold(counts: &[TmCount], commits: u64) -> Option<TmNo>
 }
 
 /// The first transaction module whose HOLDs were each followed by a RELEASE.
-pub(crate) fn first_free(counts: &[TmCount]) -> Option<TmNo>
+pub fn first_free(counts: &[TmCount]) -> Option<TmNo>
     ensures { result ≡ option_map tm_of (find is_free counts.now) }
 {
     match counts.iter().find(|one| one.is_free()) {
@@ -148,7 +147,7 @@ pub(crate) fn first_free(counts: &[TmCount]) -> Option<TmNo>
 }
 
 /// The first transaction module whose HELD for the transaction of this number is missing.
-pub(crate) fn first_missing(counts: &[TmCount], turn: u64) -> Option<TmNo>
+pub fn first_missing(counts: &[TmCount], turn: u64) -> Option<TmNo>
     ensures { result ≡ option_map tm_of (find (lacks_held turn) counts.now) }
 {
     match counts.iter().find(|one| one.lacks_held(turn)) {
@@ -158,11 +157,7 @@ pub(crate) fn first_missing(counts: &[TmCount], turn: u64) -> Option<TmNo>
 }
 
 /// The transaction modules whose HELD for the transaction of this number is missing.
-pub(crate) fn all_missing(
-    alloc: Global,
-    counts: &[TmCount],
-    turn: u64,
-) -> Result<Vec<TmNo>, NoMemory>
+pub fn all_missing(alloc: Global, counts: &[TmCount], turn: u64) -> Result<Vec<TmNo>, NoMemory>
     ensures { IfOk result (λ tms. tms.items ≡ filter_map (unheld_by turn) counts.now) }
 {
     Ok(
@@ -174,21 +169,21 @@ pub(crate) fn all_missing(
 }
 
 /// Whether all hold for the transaction of this number, and have said so.
-pub(crate) fn all_hold(counts: &[TmCount], turn: u64) -> bool
+pub fn all_hold(counts: &[TmCount], turn: u64) -> bool
     ensures { result ≡ list_all (is_holding turn) counts.now }
 {
     counts.iter().all(|one| one.is_holding(turn))
 }
 
 /// Whether a RELEASE for one of so many Commits is still to be sent to one.
-pub(crate) fn any_on_hold(counts: &[TmCount], commits: u64) -> bool
+pub fn any_on_hold(counts: &[TmCount], commits: u64) -> bool
     ensures { result ≡ list_any (is_kept_on_hold commits) counts.now }
 {
     counts.iter().any(|one| one.is_kept_on_hold(commits))
 }
 
 /// Whether one was asked to hold for the transaction of this number.
-pub(crate) fn any_asked_to_hold(counts: &[TmCount], turn: u64) -> bool
+pub fn any_asked_to_hold(counts: &[TmCount], turn: u64) -> bool
     ensures { result ≡ list_any (is_asked_to_hold turn) counts.now }
 {
     counts.iter().any(|one| one.is_asked_to_hold(turn))

@@ -1,0 +1,2 @@
+mod All
+pub use Rattle.sdd_rules.proofs as rules
