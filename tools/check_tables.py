@@ -33,7 +33,7 @@ LAWS = [
 STATEMENTS = [
     ("sdd_order", "IsSerial", "an order is serial"), ("sdd_shell", "EndsAs", "how a call ends"),
     ("sdd_acyclic", "ProtocolsLeaveNoCycle", "the protocols leave no cycle"), ("sdd_log", "IsTheLog", "a log is the one log of a list of events"),
-    ("sdd_run", "IsReportOn", "a text is the report on a run"), ("sdd_watch", "IsInsideOf", "a text tells what happens inside a run"),
+    ("sdd_run", "IsReportOn", "a text is the report on a run"), ("sdd_app_inside", "IsInsideOf", "a text tells what happens inside a run"),
 ]
 
 

@@ -28,7 +28,7 @@ from sdd.view.page import add_programs, page_of as page_of_run
 PARTS = os.path.join(ROOT, "tools", "site")
 BROWSER = "web/sdd1.html"
 STATEMENTS = {          # a page each, with the words by which the navigation calls it
-    "IsReportOn": ("sdd_run", "of a report"), "IsInsideOf": ("sdd_watch", "of what is inside"),
+    "IsReportOn": ("sdd_run", "of a report"), "IsInsideOf": ("sdd_app_inside", "of what is inside"),
     "EndsAs": ("sdd_shell", "of how a call ends"), "IsSerial": ("sdd_order", "of a serial order"),
 }
 SHOWN_FIRST = [("index.html", "sdd1"), (BROWSER, "Look, in this browser"), ("examples/index.html", "Runs, event by event")]

@@ -69,12 +69,12 @@ HEADS = {"WorkedLines": """-- Worked lines, written by tools/write_inside_exampl
 use Rattle.std.specs.Prelude.{ℕ, suc, ◌≡◌, List, [], ◌∷◌, ◌++◌, codes, map, refl}
 use Rattle.std.specs.Fmt.{digits}
 %s
-use Rattle.sdd_obligations.specs.All.{Catalogue, Input, Log, Txn}
+use Rattle.sdd_app_inside.specs.watch.obligations.All.{Catalogue, Input, Log, Txn}
 use Rattle.sdd_inside.specs.Examples.{named, txn}
 use Rattle.sdd_inside.specs.Json.{also}
 use Rattle.sdd_inside.specs.Lines.{line}
-use Rattle.sdd_watch.specs.Moments.{at_event}
-use Rattle.sdd_watch.specs.Text.{change}
+use Rattle.sdd_app_inside.specs.watch.Moments.{at_event}
+use Rattle.sdd_app_inside.specs.watch.Text.{change}
 
 -- the line of the event after so many others, by catalogue and transactions with names
 abbrev pub line_after : Catalogue → List Txn → Input → Log → ℕ → List ℕ
@@ -83,10 +83,10 @@ line_after cat txns g log before = line cat txns (change g (at_event before log)
 use Rattle.std.specs.Prelude.{◌≡◌, List, [], ◌∷◌, ◌++◌, codes, map, refl}
 use Rattle.std.specs.Fmt.{digits}
 %s
-use Rattle.sdd_obligations.specs.All.{Catalogue, Txn}
+use Rattle.sdd_app_inside.specs.watch.obligations.All.{Catalogue, Txn}
 use Rattle.sdd_inside.specs.Examples.{named, txn}
 use Rattle.sdd_inside.specs.Json.{also}
-use Rattle.sdd_watch.specs.Text.{inside_text}
+use Rattle.sdd_app_inside.specs.watch.Text.{inside_text}
 use Rattle.sdd_inside_laws.specs.WorkedLines.{line_after}
 
 -- a whole text, of a log whose fragment has no name

@@ -1,10 +1,10 @@
 -- What a call comes to that shows what happens inside a run.
 use Rattle.std.proofs.Common.{◌≡◌, ℕ, List, [], ◌∷◌, Some, None, refl, ap}
 use Rattle.sdd_shell.proofs.Verdicts.{IsDecided, workload_decided}
-use Rattle.sdd_watch.specs.run.Runs.{EndsAtLimit}
-use Rattle.sdd_watch.specs.Text.{IsInsideOf}
-use Rattle.sdd_watch.proofs.Apart.{text_or_limit}
+use Rattle.sdd_run.specs.Runs.{EndsAtLimit}
+use Rattle.sdd_app_inside.proofs.Apart.{text_or_limit}
 use Rattle.sdd_app_inside.specs.Inside.{AreNotTwo, Names, inside_call, names_in}
+use Rattle.sdd_app_inside.specs.Text.{IsInsideOf}
 
 -- the names that two words are
 

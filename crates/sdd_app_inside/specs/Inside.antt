@@ -1,10 +1,10 @@
 -- What a call of the program comes to that shows what happens inside a run. Its words are the names of a catalogue and of a
 -- workload.
 use Rattle.std.specs.Prelude.{◌≡◌, ℕ, List, [], ◌∷◌, Option, Some, None, codes}
-use Rattle.sdd_watch.specs.run.Runs.{EndsAtLimit}
-use Rattle.sdd_watch.specs.Text.{IsInsideOf}
+use Rattle.sdd_run.specs.Runs.{EndsAtLimit}
 use Rattle.sdd_shell.specs.Calls.{Call}
 use Rattle.sdd_shell.specs.Requests.{about_workload}
+use Rattle.sdd_app_inside.specs.Text.{IsInsideOf}
 
 -- the names of two files
 pub record Names : Type 0 where

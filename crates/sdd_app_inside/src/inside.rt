@@ -1,18 +1,18 @@
 //! The call of the program that shows what happens inside a run.
 ghost use Rattle.std.specs.Prelude.{◌≡◌, ◌∷◌, [], map, string_bytes, IfNone, IfSome};
-ghost use Rattle.sdd_script.specs.Valid.{IsValid};
-ghost use Rattle.sdd_watch.specs.run.Runs.{EndsAtLimit};
-ghost use Rattle.sdd_watch.specs.Text.{IsInsideOf};
+ghost use Rattle.sdd_run.specs.Runs.{EndsAtLimit};
+ghost use Rattle.sdd_run.specs.script.Valid.{IsValid};
 ghost use Rattle.sdd_shell.specs.Calls.{AnswersAs, EndsAs};
 ghost use Rattle.sdd_shell.specs.Requests.{AnswersRequest, about_workload};
 ghost use Rattle.sdd_shell.specs.States.{shelf_by, sink_by};
 ghost use Rattle.sdd_shell.specs.Verdict.{MakesText};
 ghost use Rattle.sdd_app_inside.specs.Inside.{AreNotTwo, inside_call};
+ghost use Rattle.sdd_app_inside.specs.Text.{IsInsideOf};
 
+use crate::text::inside_text;
 use sdd_lang::{Catalogue, Pages, Shelf, Sink};
-use sdd_script::Workload;
+use sdd_run::{Workload, WorldEnd};
 use sdd_shell::{Status, accepted_catalogue, accepted_workload, end_call};
-use sdd_watch::{WorldEnd, inside_text};
 use std::alloc::Global;
 
 const USAGE: &[u8] = b"usage: sdd1_inside CAT WORK\n";
@@ -42,8 +42,7 @@ fn inside_answer<S: Shelf>(
 {
     let catalogue = accepted_catalogue(alloc, shelf, catalogue)?;
     let work = accepted_workload(alloc, shelf, workload, &catalogue)?;
-    let text = inside_pages(alloc, &catalogue, work)?;
-    Ok(text)
+    inside_pages(alloc, &catalogue, work)
 }
 
 /// The names of two files.

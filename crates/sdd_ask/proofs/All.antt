@@ -34,7 +34,7 @@ pub use Rattle.sdd_protocol.specs.declared.entry.Entry.{Entry}
 pub use Rattle.sdd_protocol.specs.declared.protocol.Protocol.{Protocol}
 pub use Rattle.sdd_snapshots.specs.Thirds.{HasNoP3}
 pub use Rattle.std.proofs.Math.Seq.{take-append_seam}
-pub use Rattle.std.proofs.Common.{All, Bool, OnOk, add-one, codes, Contains, List, None, Option, Some, [], ap, arith, cond, drop, eq-eqb, eqb-true, false, find, get_or-set_other, get_or-set_same, if◌then◌else◌, inl, inr, length, length-set, map, option_copied, refl, replicate, rules, slice_get, slice_index_or as get_or, slice_set as set, subst, suc, sym, take, take_all, true, zero, ℕ, ◌&&◌, ◌*◌, ◌++◌, ◌+◌, ◌-◌, ◌/◌, ◌%◌, ◌<◌, ◌==◌, ◌||◌, ◌↔◌, ◌∙◌, ◌∷◌, ◌≡◌, ◌≢◌, ◌≤◌, ◌⊎◌}
+pub use Rattle.std.proofs.Common.{All, Bool, IfOk, OnOk, add-one, codes, Contains, List, None, Option, Some, [], ap, arith, cond, drop, eq-eqb, eqb-true, false, find, get_or-set_other, get_or-set_same, if◌then◌else◌, inl, inr, length, length-set, map, option_copied, refl, replicate, rules, slice_get, slice_index_or as get_or, slice_set as set, subst, suc, sym, take, take_all, true, zero, ℕ, ◌&&◌, ◌*◌, ◌++◌, ◌+◌, ◌-◌, ◌/◌, ◌%◌, ◌<◌, ◌==◌, ◌||◌, ◌↔◌, ◌∙◌, ◌∷◌, ◌≡◌, ◌≢◌, ◌≤◌, ◌⊎◌}
 pub use Rattle.std.proofs.lemmas.Bool.{and_from, and_parts, cases_Bool, cases_eq, or_cases, or_from, or_left, or_right}
 pub use Rattle.std.proofs.lemmas.Bool.Decides.{nat_tests}
 pub use Rattle.std.proofs.lemmas.List.{get_or-replicate, length-replicate}

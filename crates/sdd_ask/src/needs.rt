@@ -1,12 +1,18 @@
 //! The modules that classes need.
-ghost use Rattle.std.specs.Prelude.{◌≡◌, ◌≤◌, ◌++◌, ◌&&◌, ◌==◌, All, IfOk, OnOk, if◌then◌else◌, length};
+ghost use Rattle.std.specs.Prelude.{◌≡◌, ◌≤◌, ◌++◌, ◌&&◌, ◌==◌, All, IfOk, List, OnOk, if◌then◌else◌, length};
 ghost use Rattle.std.specs.List.{list_any, flat_map};
 ghost use Rattle.sdd_base.specs.Numbers.{dm_no, tm_no};
 ghost use Rattle.sdd_catalog.specs.Catalogue.{class_at, numbers_to};
 ghost use Rattle.sdd_graph.specs.Edges.{IsClassOf};
-ghost use Rattle.sdd_ask.specs.Flags.{flag_at};
+ghost use Rattle.sdd_ask.specs.Flags.{Tells, closed, flag_at, flags_of};
 ghost use Rattle.sdd_ask.specs.Needed.{is_own, leads_to, needed_by, needs_by};
 ghost use Rattle.sdd_ask.specs.Needs.{IsNeedsText};
+ghost use Rattle.sdd_ask.specs.Queueing.{awaits};
+ghost use Rattle.sdd_ask.specs.Reaching.{begins, moves};
+ghost use Rattle.sdd_outage.specs.Waiting.{waits_for};
+ghost use Rattle.sdd_ask.specs.declared.flags.TheConstants.{WIDTH};
+ghost use Rattle.sdd_protocol.specs.Protocols.{IsTable};
+ghost use Rattle.sdd_protocol.specs.declared.entry.Entry.{Entry};
 ghost use Rattle.sdd_ask.specs.Texts as shown;
 
 use crate::flags::{closed, flag_at};
@@ -16,7 +22,7 @@ use crate::reaching::{begins, moves};
 use crate::waiting::waits;
 use sdd_base::{ClassNo, DmNo, NoMemory, Site, TmNo};
 use sdd_catalog::{Catalogue, Read};
-use sdd_protocol::table;
+use sdd_protocol::{Entry, table};
 use sdd_words::{put, put_count};
 use std::alloc::Global;
 
@@ -26,15 +32,69 @@ use std::alloc::Global;
 pub fn needs_text(alloc: Global, catalogue: &Catalogue) -> Result<Vec<u8>, NoMemory>
     ensures { IfOk result (λ text. IsNeedsText catalogue.now text.items) }
 {
-    catalogue.law_is_sound();
     let table = table(alloc, catalogue)?;
-    let waits = waits(alloc, table.entries())?;
-    let moves = moves(alloc, &waits)?;
-    let passing = closed(alloc, &moves)?;
-    let awaited = awaits(alloc, catalogue, &waits)?;
-    let begun = begins(alloc, &awaited, &passing)?;
+    text_by_table(alloc, catalogue, table.entries())
+}
+
+/// The text by the protocol table of the catalogue.
+fn text_by_table(
+    alloc: Global,
+    catalogue: &Catalogue,
+    entries: &[Entry],
+) -> Result<Vec<u8>, NoMemory>
+    requires { IsTable catalogue.now entries.now }
+    ensures { IfOk result (λ text. IsNeedsText catalogue.now text.items) }
+{
+    catalogue.law_is_sound();
+    let waits = waits(alloc, entries)?;
+    text_by_waits(alloc, catalogue, waits.as_slice())
+}
+
+/// The text by the classes that wait for others.
+fn text_by_waits(alloc: Global, catalogue: &Catalogue, waits: &[bool]) -> Result<Vec<u8>, NoMemory>
+    requires { (entries : List Entry) × IsTable catalogue.now entries × Tells waits.now (waits_for entries) }
+    ensures { IfOk result (λ text. IsNeedsText catalogue.now text.items) }
+{
+    catalogue.law_is_sound();
+    let passing = passing(alloc, waits)?;
+    let begun = begun(alloc, catalogue, waits, passing.as_slice())?;
+    text_by_flags(alloc, catalogue, begun.as_slice(), passing.as_slice())
+}
+
+/// To which classes the passing of each one leads.
+fn passing(alloc: Global, waits: &[bool]) -> Result<Vec<bool>, NoMemory>
+    ensures { IfOk result (λ flags. Tells flags.items (closed (flag_at (flags_of (moves (flag_at waits.now)))) WIDTH)) }
+{
+    let moves = moves(alloc, waits)?;
+    closed(alloc, moves.as_slice())
+}
+
+/// To which classes the attempts of each one lead.
+fn begun(
+    alloc: Global,
+    catalogue: &Catalogue,
+    waits: &[bool],
+    passing: &[bool],
+) -> Result<Vec<bool>, NoMemory>
+    ensures { IfOk result (λ flags. flags.items
+        ≡ flags_of (begins (flag_at (flags_of (awaits catalogue.now (flag_at waits.now)))) (flag_at passing.now))) }
+{
+    let awaited = awaits(alloc, catalogue, waits)?;
+    begins(alloc, awaited.as_slice(), passing)
+}
+
+/// The text by the classes to which attempts and passings lead.
+fn text_by_flags(
+    alloc: Global,
+    catalogue: &Catalogue,
+    begun: &[bool],
+    passing: &[bool],
+) -> Result<Vec<u8>, NoMemory>
+    ensures { IfOk result (λ text. text.items
+        ≡ shown.needs_text catalogue.now (needed_by catalogue.now (flag_at begun.now) (flag_at passing.now))) }
+{
     let mut text = Vec::new(alloc);
-    put_needs(&mut text, catalogue, &begun, &passing)?;
+    put_needs(&mut text, catalogue, begun, passing)?;
     Ok(text)
 }
 

@@ -1,7 +1,9 @@
 //! What the head of a pipe does.
-ghost use Rattle.std.specs.Prelude.{◌≡◌, ◌<◌, ◌++◌, ◌∷◌, [], OnOk, IfOk, IsTrue, length, map, Some};
+ghost use Rattle.std.specs.Prelude.{◌≡◌, ◌<◌, ◌++◌, ◌∷◌, [], OnOk, IfOk, IsTrue, fold, length, map, true, Some};
+ghost use Rattle.sdd_copy.specs.Copies.{with_change};
 ghost use Rattle.sdd_copy.specs.Frozen.{counts_of};
-ghost use Rattle.sdd_module.specs.All.{Read, with_act, with_sends};
+ghost use Rattle.sdd_copy.specs.Items.{dated};
+ghost use Rattle.sdd_module.specs.All.{Read, Write, with_act, with_sends};
 ghost use Rattle.sdd_pipe.specs.Pipes.{update};
 ghost use Rattle.sdd_rules.specs.declared.step.Step.TheVariants.{Processes, Refuses, Waits};
 ghost use Rattle.sdd_rules.specs.dm.Due.{ask_for};
@@ -12,7 +14,7 @@ use crate::parts::Parts;
 use crate::slots::{put_space, set_waiting};
 use sdd_copy::Space;
 use sdd_module::{
-    ClassNo, Cond, Conds, Draft, Msg, NoMemory, Rec, Site, Ts, TxnNo, Use, UseCounts,
+    Changes, ClassNo, Cond, Conds, Draft, Msg, NoMemory, Rec, Site, Ts, TxnNo, Use, UseCounts,
 };
 use sdd_rules::Step;
 
@@ -59,19 +61,7 @@ impl Parts {
                     txn,
                     changes,
                 },
-            ) => {
-                self.copies.apply(ts, changes)?;
-                draft.record(Rec::Apply {
-                    txn,
-                    class: of,
-                    dm: self.dm,
-                    ts,
-                })?;
-                if class.0 == 0 {
-                    return draft.send(Site::U, Msg::Done { ts });
-                }
-                Ok(())
-            }
+            ) => self.apply(class, of, ts, txn, changes, draft),
             Some(
                 Msg::Read {
                     ts,
@@ -81,24 +71,77 @@ impl Parts {
                     conds: _,
                     uses,
                 },
-            ) => {
-                let counts = self.freeze(class, ts, uses.as_slice())?;
-                draft.record(Rec::Answer {
-                    txn,
-                    attempt,
-                    dm: self.dm,
-                })?;
-                draft.send(
-                    self.source(class),
-                    Msg::Ready {
-                        ts,
-                        class: of,
-                        counts,
-                    },
-                )
-            }
+            ) => self.answer(class, of, ts, txn, attempt, uses.as_slice(), draft),
             _ => Ok(()),
         }
+    }
+
+    /// Applies the changes of a WRITE, and answers one of class 0.
+    fn apply(
+        &mut self,
+        class: ClassNo,
+        of: ClassNo,
+        ts: Ts,
+        txn: TxnNo,
+        changes: Changes,
+        draft: &mut Draft,
+    ) -> Result<(), NoMemory>
+        requires live { IsTrue self.old.copies.live }
+        ensures state { OnOk result (self.new ≡ record self.old {
+          copies = record {
+            live = true;
+            value = fold with_change self.old.copies.value (dated ts.0 changes);
+          };
+        }) }
+        ensures notes { OnOk result (draft.new
+            ≡ with_act (act_in self.old class.0 (Write ts of txn changes) Processes) draft.old) }
+    {
+        self.copies.apply(ts, changes)?;
+        draft.record(Rec::Apply {
+            txn,
+            class: of,
+            dm: self.dm,
+            ts,
+        })?;
+        if class.0 == 0 {
+            return draft.send(Site::U, Msg::Done { ts });
+        }
+        Ok(())
+    }
+
+    /// Freezes the rows of a READ, and sends how many they are.
+    fn answer(
+        &mut self,
+        class: ClassNo,
+        of: ClassNo,
+        ts: Ts,
+        txn: TxnNo,
+        attempt: u64,
+        uses: &[Use],
+        draft: &mut Draft,
+    ) -> Result<(), NoMemory>
+        requires live { IsTrue self.old.copies.live }
+        ensures state { OnOk result (self.new ≡ record self.old {
+          frozen = update class.0 (λ f. Some (frozen_now self.old ts.0 uses.now)) self.old.frozen;
+        }) }
+        ensures notes { OnOk result (draft.new
+            ≡ with_act (act_in self.old class.0 (Read ts of txn attempt [] uses.now) Processes)
+            draft.old) }
+    {
+        let counts = self.freeze(class, ts, uses)?;
+        draft.record(Rec::Answer {
+            txn,
+            attempt,
+            dm: self.dm,
+        })?;
+        draft.send(
+            self.source(class),
+            Msg::Ready {
+                ts,
+                class: of,
+                counts,
+            },
+        )
     }
 
     /// Takes the head of a class off its pipe; what is next there doesn't wait.

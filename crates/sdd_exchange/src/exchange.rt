@@ -1,6 +1,6 @@
-ghost use Rattle.std.specs.Prelude.{◌≡◌, ◌<◌, ◌^◌, ◌==◌, ◌&&◌, ◌++◌, List, filter_map, length, map, IfOk, OnOk, option_map, not};
-ghost use Rattle.sdd_module.specs.All.{Msg, Site, head_of, is_empty};
-ghost use Rattle.sdd_rules.specs.All.{after_hand, after_send, answered, begins, fetches, goes_on, is_over, module_read, phase_ends};
+ghost use Rattle.std.specs.Prelude.{◌≡◌, ◌<◌, ◌+◌, ◌^◌, ◌==◌, ◌&&◌, ◌++◌, [], ◌∷◌, List, filter_map, length, map, IfOk, OnOk, option_map, not};
+ghost use Rattle.sdd_module.specs.All.{Msg, Site, head_of, is_empty, with_values};
+ghost use Rattle.sdd_rules.specs.All.{after_hand, after_send, answered, begins, counted, fetches, goes_on, is_over, module_read, phase_ends};
 ghost use Rattle.sdd_rules.specs.attempt.Exchange.{reduces, ships};
 ghost use Rattle.sdd_exchange.specs.Outbox.{numbered};
 ghost use Rattle.sdd_exchange.specs.Phases.{awaited_in, move_of};
@@ -13,7 +13,7 @@ use crate::modules::{DmNos, Modules};
 use crate::outbox::Outbox;
 use crate::phase::{Phase, Reduction, next_reduction};
 use crate::queries::{Asking, askings};
-use sdd_module::{ClassNo, DmNo, Msg, NoMemory, Row, Ts, Txn, Value};
+use sdd_module::{ClassNo, DmNo, Msg, NoMemory, Row, Ts, Txn, UseRows, Value, ValueList};
 use sdd_semijoin::Step;
 use sdd_union::{list_values, unite};
 use std::alloc::Global;
@@ -182,8 +182,7 @@ impl Exchange {
                 if !is_own(t, k, ts, class) {
                     return Ok(());
                 }
-                self.counts.put_all(dm, counts.as_slice())?;
-                self.answer(ts, class, dm)
+                self.take_counts(ts, class, dm, counts.as_slice())
             }
             Msg::Values {
                 ts: t,
@@ -194,9 +193,7 @@ impl Exchange {
                 if !is_own(t, k, ts, class) {
                     return Ok(());
                 }
-                self.values += values.as_slice().len() as u128;
-                unite(&mut self.union, values)?;
-                self.answer(ts, class, dm)
+                self.take_values(ts, class, dm, values)
             }
             Msg::Reduced {
                 ts: t,
@@ -207,8 +204,7 @@ impl Exchange {
                 if !is_own(t, k, ts, class) {
                     return Ok(());
                 }
-                self.counts.put(dm, use_no, count)?;
-                self.answer(ts, class, dm)
+                self.take_count(ts, class, dm, use_no, count)
             }
             Msg::Rows {
                 ts: t,
@@ -218,12 +214,93 @@ impl Exchange {
                 if !is_own(t, k, ts, class) {
                     return Ok(());
                 }
-                put_behind(&mut self.found, rows.into_vec())?;
-                self.rows = self.found.len() as u128;
-                self.answer(ts, class, dm)
+                self.take_rows(ts, class, dm, rows)
             }
             _ => Ok(()),
         }
+    }
+
+    /// A module has answered its READ: so many rows are held there for each use.
+    fn take_counts(
+        &mut self,
+        ts: Ts,
+        class: ClassNo,
+        dm: DmNo,
+        counts: &[(u32, u64)],
+    ) -> Result<(), NoMemory>
+        requires small { AreSmall self.old.left }
+        requires values { (answered ts.0 class.0 dm.0 (record self.old {
+          counts = counted dm.0 counts.now self.old.counts;
+        })).values < 2 ^ 128 }
+        ensures { OnOk result (self.new ≡ answered ts.0 class.0 dm.0 (record self.old {
+          counts = counted dm.0 counts.now self.old.counts;
+        })) }
+    {
+        self.counts.put_all(dm, counts)?;
+        self.answer(ts, class, dm)
+    }
+
+    /// A module has answered a FETCH with these values.
+    fn take_values(
+        &mut self,
+        ts: Ts,
+        class: ClassNo,
+        dm: DmNo,
+        values: ValueList,
+    ) -> Result<(), NoMemory>
+        requires small { AreSmall self.old.left }
+        requires fit { self.old.values + length values < 2 ^ 128 }
+        requires values { (answered ts.0 class.0 dm.0 (record self.old {
+          union = with_values self.old.union values;
+          values = self.old.values + length values;
+        })).values < 2 ^ 128 }
+        ensures { OnOk result (self.new ≡ answered ts.0 class.0 dm.0 (record self.old {
+          union = with_values self.old.union values;
+          values = self.old.values + length values;
+        })) }
+    {
+        self.values += values.as_slice().len() as u128;
+        unite(&mut self.union, values)?;
+        self.answer(ts, class, dm)
+    }
+
+    /// A module has answered a REDUCE: so many rows of the use are left there.
+    fn take_count(
+        &mut self,
+        ts: Ts,
+        class: ClassNo,
+        dm: DmNo,
+        use_no: u32,
+        count: u64,
+    ) -> Result<(), NoMemory>
+        requires small { AreSmall self.old.left }
+        requires values { (answered ts.0 class.0 dm.0 (record self.old {
+          counts = counted dm.0 ((use_no, count) ∷ []) self.old.counts;
+        })).values < 2 ^ 128 }
+        ensures { OnOk result (self.new ≡ answered ts.0 class.0 dm.0 (record self.old {
+          counts = counted dm.0 ((use_no, count) ∷ []) self.old.counts;
+        })) }
+    {
+        self.counts.put(dm, use_no, count)?;
+        self.answer(ts, class, dm)
+    }
+
+    /// A module has answered the SHIP with these rows.
+    fn take_rows(&mut self, ts: Ts, class: ClassNo, dm: DmNo, rows: UseRows) -> Result<(), NoMemory>
+        requires small { AreSmall self.old.left }
+        requires rows { self.old.rows ≡ length self.old.found }
+        requires values { (answered ts.0 class.0 dm.0 (record self.old {
+          found = self.old.found ++ rows;
+          rows = self.old.rows + length rows;
+        })).values < 2 ^ 128 }
+        ensures { OnOk result (self.new ≡ answered ts.0 class.0 dm.0 (record self.old {
+          found = self.old.found ++ rows;
+          rows = self.old.rows + length rows;
+        })) }
+    {
+        put_behind(&mut self.found, rows.into_vec())?;
+        self.rows = self.found.len() as u128;
+        self.answer(ts, class, dm)
     }
 
     /// A module has answered.

@@ -5,12 +5,12 @@ use Rattle.sdd_inside_laws.proofs.EachMoment.{marks_at}
 use Rattle.sdd_inside_laws.proofs.QueuesRead.{all_queues, of_class}
 use Rattle.sdd_inside_laws.specs.Reader.{known, queue_classes}
 use Rattle.sdd_inside_laws.specs.WholeRun.{empty_queue, nothing_yet}
-use Rattle.sdd_obligations.proofs.logs.Beginning.{rests_at_first}
-use Rattle.sdd_obligations.proofs.logs.Completing.{OnlyMarksAreDue, next_is_mark}
-use Rattle.sdd_obligations.proofs.logs.FirstHand.{none_to_hand}
-use Rattle.sdd_obligations.specs.All.{D, Entry, Event, Input, IsLawful, Log, Mark, Msg, Redeclare, Redeclares, Settle, Site, T, U, all_links, class_no, home, local_of, mark_from, mark_of, marks, next, queue, quiet, round, setting_of, txn_no}
-use Rattle.sdd_watch.proofs.EachEvent.{lawful_at}
-use Rattle.sdd_watch.specs.Moments.{at_event}
+use Rattle.sdd_app_inside.proofs.watch.obligations.logs.Beginning.{rests_at_first}
+use Rattle.sdd_app_inside.proofs.watch.obligations.logs.Completing.{OnlyMarksAreDue, next_is_mark}
+use Rattle.sdd_app_inside.proofs.watch.obligations.logs.FirstHand.{none_to_hand}
+use Rattle.sdd_app_inside.specs.watch.obligations.All.{D, Entry, Event, Input, IsLawful, Log, Mark, Msg, Redeclare, Redeclares, Settle, Site, T, U, all_links, class_no, home, local_of, mark_from, mark_of, marks, next, queue, quiet, round, setting_of, txn_no}
+use Rattle.sdd_app_inside.proofs.watch.EachEvent.{lawful_at}
+use Rattle.sdd_app_inside.specs.watch.Moments.{at_event}
 
 -- at first all links are quiet, so what is next is an event
 

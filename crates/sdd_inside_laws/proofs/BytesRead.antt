@@ -16,11 +16,11 @@ use Rattle.sdd_inside_read.proofs.LinesRead.{lines_again}
 use Rattle.sdd_inside_read.specs.LineReader.{event_lines, read_line}
 use Rattle.sdd_inside_read.specs.Small.{HasSmallNumbers}
 use Rattle.sdd_inside_read.specs.Told.{Told, told}
-use Rattle.sdd_obligations.specs.All.{Input, IsGood, IsTheLog, Log, marks, numbers_to}
-use Rattle.sdd_watch.proofs.EachEvent.{at_self}
-use Rattle.sdd_watch.specs.Moments.{at_event}
-use Rattle.sdd_watch.specs.Text.{change}
-use Rattle.sdd_watch.specs.run.world.Copies.{tables_of}
+use Rattle.sdd_app_inside.specs.watch.obligations.All.{Input, IsGood, IsTheLog, Log, marks, numbers_to}
+use Rattle.sdd_app_inside.proofs.watch.EachEvent.{at_self}
+use Rattle.sdd_app_inside.specs.watch.Moments.{at_event}
+use Rattle.sdd_app_inside.specs.watch.Text.{change}
+use Rattle.sdd_app_inside.specs.run.world.Copies.{tables_of}
 
 -- the numbers in the lines of a run have 64 bits at most
 abbrev pub HasSmallLines : Input → Log → Type 0

@@ -3,10 +3,10 @@ use Rattle.std.proofs.Common.{ap, arith, inl, inr, ◌∙◌}
 use Rattle.std.proofs.lemmas.Bool.{cases_lt}
 use Rattle.std.specs.Prelude.{ℕ, suc, ◌<◌, ◌≡◌, ◌≤◌, [], ◌∷◌}
 use Rattle.sdd_inside_laws.proofs.Resting.{rests_at}
-use Rattle.sdd_obligations.specs.All.{Entry, Input, IsGood, IsTheLog, Log, Mark, Redeclares, marks}
-use Rattle.sdd_watch.proofs.EachEvent.{IsMarkedBetween, at_below, at_self, goes_on, is_between, lawful_at, marks_next}
-use Rattle.sdd_watch.specs.Moments.{at_event}
-use Rattle.sdd_watch.specs.Watching.{IsBetween}
+use Rattle.sdd_app_inside.specs.watch.obligations.All.{Entry, Input, IsGood, IsTheLog, Log, Mark, Redeclares, marks}
+use Rattle.sdd_app_inside.proofs.watch.EachEvent.{IsMarkedBetween, at_below, at_self, goes_on, is_between, lawful_at, marks_next}
+use Rattle.sdd_app_inside.specs.watch.Moments.{at_event}
+use Rattle.sdd_app_inside.specs.watch.Watching.{IsBetween}
 
 one_mark : (x : Entry) (log : Log) → marks (x ∷ log) ≤ suc (marks log)
 one_mark (Mark e) log = omega arith

@@ -2,17 +2,17 @@
 -- event took off it stands at the front of the new one.
 use Rattle.std.proofs.Common.{ap, arith, subst, sym, ◌∙◌}
 use Rattle.std.specs.Prelude.{ℕ, ◌-◌, ◌≡◌, ◌&&◌, Bool, true, false, if◌then◌else◌, List, [], ◌∷◌, ◌++◌, is_some, length, slice_get, Option, Some, None, refl}
-use Rattle.sdd_obligations.specs.All.{Ack, Call, Deliver, Does, Entry, Event, Input, Log, Lose, Mark, Msg, Packet, Puts, Redeclare, Redeclares, Repeat, Resend, Site, calls_of, link_of, marks, packet_at, puts, same_site, sends_of_act}
-use Rattle.sdd_obligations.proofs.ReadSent.{site_sym}
-use Rattle.sdd_obligations.specs.net.Links.{Link, deliver, link, lose, repeat, resend, turned}
+use Rattle.sdd_app_inside.specs.watch.obligations.All.{Ack, Call, Deliver, Does, Entry, Event, Input, Log, Lose, Mark, Msg, Packet, Puts, Redeclare, Redeclares, Repeat, Resend, Site, calls_of, link_of, marks, packet_at, puts, same_site, sends_of_act}
+use Rattle.sdd_app_inside.proofs.watch.obligations.ReadSent.{site_sym}
+use Rattle.sdd_app_inside.specs.watch.obligations.net.Links.{Link, deliver, link, lose, repeat, resend, turned}
 use Rattle.sdd_inside.specs.Differences.{takes_one}
 use Rattle.sdd_inside.specs.declared.delta.Found.{Found}
 use Rattle.sdd_inside_laws.proofs.FlightsLeft.{Begins, deliver_back, deliver_there, kept_if, lose_back, lose_there, plain_way, put_way, repeat_back, repeat_there, resend_there, same_flight, taking_way}
 use Rattle.sdd_inside_laws.proofs.PacketsRead.{fewer}
 use Rattle.sdd_inside_laws.specs.Reader.{place_in}
-use Rattle.sdd_watch.proofs.Between.{last_is, same_link}
-use Rattle.sdd_watch.specs.Happens.{arrived_by, found_by, last_event, lost_by}
-use Rattle.sdd_watch.specs.Watching.{IsBetween, IsMark, is_taken, left_between, left_of}
+use Rattle.sdd_app_inside.proofs.watch.Between.{last_is, same_link}
+use Rattle.sdd_app_inside.specs.watch.Happens.{arrived_by, found_by, last_event, lost_by}
+use Rattle.sdd_app_inside.specs.watch.Watching.{IsBetween, IsMark, is_taken, left_between, left_of}
 
 -- the packets that an event leaves of a flight
 abbrev pub kept_by : Event → Found → Site × Site → List (Packet Msg) → List (Packet Msg)

@@ -3,8 +3,8 @@ use Rattle.std.proofs.Common.{ap, eqb-true, sym, ◌∙◌}
 use Rattle.std.proofs.lemmas.List.{drop-map, map-append, take-map}
 use Rattle.std.proofs.Math.Seq.{drop-append_seam}
 use Rattle.std.specs.Prelude.{ℕ, ◌+◌, ◌-◌, ◌==◌, ◌&&◌, ◌≡◌, Bool, true, false, if◌then◌else◌, List, [], ◌∷◌, ◌++◌, drop, filter, filter_map, find, length, map, option_map, slice_get, take, unwrap_or, None, Some, refl}
-use Rattle.sdd_obligations.proofs.invariants.Sites.{site_self}
-use Rattle.sdd_obligations.specs.All.{Input, Log, Msg, Packet, Site, all_links, handed, link_of, same_site, sent}
+use Rattle.sdd_app_inside.proofs.watch.obligations.invariants.Sites.{site_self}
+use Rattle.sdd_app_inside.specs.watch.obligations.All.{Input, Log, Msg, Packet, Site, all_links, handed, link_of, same_site, sent}
 use Rattle.sdd_inside.specs.Differences.{handed_between, in_flight, on_link, put_between}
 use Rattle.sdd_inside.specs.declared.delta.Handed.{Handed}
 use Rattle.sdd_inside.specs.declared.delta.InFlight.{InFlight}
@@ -14,13 +14,13 @@ use Rattle.sdd_inside_laws.proofs.FlightsRead.{as_many_left, kept_between, link_
 use Rattle.sdd_inside_laws.proofs.FoundIn.{found_in}
 use Rattle.sdd_inside_laws.proofs.PacketsRead.{all_fly, each_change, new_messages}
 use Rattle.sdd_inside_laws.specs.Reader.{flight_left, flying, handed_on, is_handed_on, is_put_on, known_link, place_in, put_on, read_link, told}
-use Rattle.sdd_watch.proofs.Between.{link_grows}
-use Rattle.sdd_watch.proofs.Came.{here, that_one}
-use Rattle.sdd_watch.proofs.Flights.{is_above}
-use Rattle.sdd_watch.specs.Happens.{found_by, happened_at, last_event, taken}
-use Rattle.sdd_watch.specs.Moments.{link_moment}
-use Rattle.sdd_watch.specs.Text.{change}
-use Rattle.sdd_watch.specs.Watching.{IsBetween, is_taken, left_between}
+use Rattle.sdd_app_inside.proofs.watch.Between.{link_grows}
+use Rattle.sdd_app_inside.proofs.watch.Came.{here, that_one}
+use Rattle.sdd_app_inside.proofs.watch.Flights.{is_above}
+use Rattle.sdd_app_inside.specs.watch.Happens.{found_by, happened_at, last_event, taken}
+use Rattle.sdd_app_inside.specs.watch.Moments.{link_moment}
+use Rattle.sdd_app_inside.specs.watch.Text.{change}
+use Rattle.sdd_app_inside.specs.watch.Watching.{IsBetween, is_taken, left_between}
 
 self_is : (a b : Site) → (same_site a a && same_site b b) ≡ true
 self_is a b = rw (site_self a, site_self b) refl

@@ -11,11 +11,11 @@ use Rattle.sdd_inside_laws.proofs.PipesThere.{at_flat, pipe_there}
 use Rattle.sdd_inside_laws.proofs.QueuesRead.{all_queues, of_class}
 use Rattle.sdd_inside_laws.specs.Reader.{KnownPipe, known, known_pipe, queue_classes}
 use Rattle.sdd_inside_laws.specs.TextReader.{AreOfCatalogue}
-use Rattle.sdd_obligations.proofs.invariants.Lists.{in_filtered, in_range}
-use Rattle.sdd_obligations.specs.All.{Input, Log, T, class_at, numbers_to, runs, setting_of, tm_no}
-use Rattle.sdd_watch.specs.Happens.{happened_at}
-use Rattle.sdd_watch.specs.Moments.{all_pipes, pipe_moment, queues_of}
-use Rattle.sdd_watch.specs.Text.{change}
+use Rattle.sdd_app_inside.proofs.watch.obligations.invariants.Lists.{in_filtered, in_range}
+use Rattle.sdd_app_inside.specs.watch.obligations.All.{Input, Log, T, class_at, numbers_to, runs, setting_of, tm_no}
+use Rattle.sdd_app_inside.specs.watch.Happens.{happened_at}
+use Rattle.sdd_app_inside.specs.watch.Moments.{all_pipes, pipe_moment, queues_of}
+use Rattle.sdd_app_inside.specs.watch.Text.{change}
 
 -- what holds of each image, and of each item of what is put together
 

@@ -6,13 +6,13 @@ use Rattle.std.specs.Option.{option_map_or}
 use Rattle.std.specs.Prelude.{ℕ, zero, suc, ◌-◌, ◌<◌, ◌≡◌, ◌≤◌, if◌then◌else◌, List, [], ◌∷◌, codes, length, map, slice_get, Some, refl}
 use Rattle.std.specs.Str.{bytes_eq}
 use Rattle.sdd_inside_laws.specs.TextReader.{HaveOwnNames}
-use Rattle.sdd_obligations.specs.All.{Catalogue, Class, IsSoundCatalogue}
-use Rattle.sdd_obligations.specs.base.Name.{IsName}
-use Rattle.sdd_obligations.specs.catalog.Naming.{AreNamed}
-use Rattle.sdd_watch.proofs.run.script.ClassNames.{class_names_differ}
-use Rattle.sdd_watch.proofs.run.script.NamePlaces.{place_of_name}
-use Rattle.sdd_watch.specs.run.report.Names.{class_name, class_word}
-use Rattle.sdd_watch.specs.run.script.Naming.{class_names}
+use Rattle.sdd_app_inside.specs.watch.obligations.All.{Catalogue, Class, IsSoundCatalogue}
+use Rattle.sdd_app_inside.specs.watch.obligations.base.Name.{IsName}
+use Rattle.sdd_app_inside.specs.watch.obligations.catalog.Naming.{AreNamed}
+use Rattle.sdd_app_inside.proofs.run.script.ClassNames.{class_names_differ}
+use Rattle.sdd_app_inside.proofs.run.script.NamePlaces.{place_of_name}
+use Rattle.sdd_app_inside.specs.run.report.Names.{class_name, class_word}
+use Rattle.sdd_app_inside.specs.run.script.Naming.{class_names}
 
 -- the name of a class by its place
 

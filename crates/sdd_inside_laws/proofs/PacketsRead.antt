@@ -2,13 +2,13 @@
 use Rattle.std.proofs.Common.{ap, arith, inl, inr, le-leb, le-ltb, lt-ltb, ◌∙◌}
 use Rattle.std.proofs.lemmas.Bool.{cases_lt, lt-leb}
 use Rattle.std.specs.Prelude.{ℕ, zero, suc, ◌+◌, ◌-◌, ◌≡◌, true, false, if◌then◌else◌, nat_le, List, [], ◌∷◌, ◌++◌, filter, filter_map, flat_map, length, map, slice_get, Option, Some, None, refl}
-use Rattle.sdd_obligations.specs.All.{Ack, Message, Msg, Packet}
-use Rattle.sdd_obligations.specs.net.Links.{numbered, without_at}
+use Rattle.sdd_app_inside.specs.watch.obligations.All.{Ack, Message, Msg, Packet}
+use Rattle.sdd_app_inside.specs.watch.obligations.net.Links.{numbered, without_at}
 use Rattle.sdd_inside.specs.Differences.{changes, in_flight}
 use Rattle.sdd_inside.specs.declared.delta.InFlight.TheVariants.{Again, First}
 use Rattle.sdd_inside_laws.specs.Reader.{flying, told}
-use Rattle.sdd_watch.proofs.Flights.{is_above}
-use Rattle.sdd_watch.specs.Happens.{taken}
+use Rattle.sdd_app_inside.proofs.watch.Flights.{is_above}
+use Rattle.sdd_app_inside.specs.watch.Happens.{taken}
 
 -- as it stands in the flight
 

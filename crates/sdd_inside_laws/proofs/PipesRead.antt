@@ -5,26 +5,26 @@ use Rattle.std.proofs.lemmas.List.{length-append}
 use Rattle.std.proofs.lemmas.List.Elements.{filter_map-append}
 use Rattle.std.proofs.Math.Seq.{drop-append_seam}
 use Rattle.std.specs.Prelude.{ℕ, ◌-◌, ◌==◌, ◌&&◌, ◌≡◌, ◌≤◌, Bool, true, false, if◌then◌else◌, List, [], ◌∷◌, ◌++◌, drop, filter_map, find, length, slice_get, None, Some, refl}
-use Rattle.sdd_obligations.proofs.invariants.InPipe.{in_pipe, in_pipe_later}
-use Rattle.sdd_obligations.proofs.invariants.Made.{local_grows}
-use Rattle.sdd_obligations.proofs.invariants.Once.{processed_grows}
-use Rattle.sdd_obligations.proofs.logs.NewMarks.{lawful_permitted}
-use Rattle.sdd_obligations.specs.All.{D, Input, IsClassHere, IsGood, IsPermitted, Log, Msg, Pipe, class_no, class_puts, dm_no, is_empty, local_of, pipe, setting_of, time_at}
-use Rattle.sdd_obligations.specs.base.Words.{head_of}
-use Rattle.sdd_obligations.specs.invariants.All.{all_of}
+use Rattle.sdd_app_inside.proofs.watch.obligations.invariants.InPipe.{in_pipe, in_pipe_later}
+use Rattle.sdd_app_inside.proofs.watch.obligations.invariants.Made.{local_grows}
+use Rattle.sdd_app_inside.proofs.watch.obligations.invariants.Once.{processed_grows}
+use Rattle.sdd_app_inside.proofs.watch.obligations.logs.NewMarks.{lawful_permitted}
+use Rattle.sdd_app_inside.specs.watch.obligations.All.{D, Input, IsClassHere, IsGood, IsPermitted, Log, Msg, Pipe, class_no, class_puts, dm_no, is_empty, local_of, pipe, setting_of, time_at}
+use Rattle.sdd_app_inside.specs.watch.obligations.base.Words.{head_of}
+use Rattle.sdd_app_inside.specs.watch.obligations.invariants.All.{all_of}
 use Rattle.sdd_inside.specs.Differences.{pipe_between}
 use Rattle.sdd_inside.specs.declared.delta.PipeDelta.{PipeDelta}
 use Rattle.sdd_inside_laws.proofs.FoundIn.{found_in}
 use Rattle.sdd_inside_laws.proofs.PacketsRead.{each_change}
 use Rattle.sdd_inside_laws.proofs.Parts.{moved_on, same_fronts, same_rests}
 use Rattle.sdd_inside_laws.specs.Reader.{KnownPipe, is_pipe_of, known_pipe, pipe_moved, read_pipe}
-use Rattle.sdd_watch.proofs.Between.{joined_more}
-use Rattle.sdd_watch.proofs.Came.{all_came, handed_parts}
+use Rattle.sdd_app_inside.proofs.watch.Between.{joined_more}
+use Rattle.sdd_app_inside.proofs.watch.Came.{all_came, handed_parts}
 use Rattle.sdd_inside_laws.proofs.PipesThere.{pipe_there}
-use Rattle.sdd_watch.specs.Happens.{happened_at}
-use Rattle.sdd_watch.specs.Moments.{all_pipes, came, handed_on, number_through, passed_to, pipe_moment, source, time_passed}
-use Rattle.sdd_watch.specs.Text.{change}
-use Rattle.sdd_watch.specs.Watching.{IsBetween, handed_over}
+use Rattle.sdd_app_inside.specs.watch.Happens.{happened_at}
+use Rattle.sdd_app_inside.specs.watch.Moments.{all_pipes, came, handed_on, number_through, passed_to, pipe_moment, source, time_passed}
+use Rattle.sdd_app_inside.specs.watch.Text.{change}
+use Rattle.sdd_app_inside.specs.watch.Watching.{IsBetween, handed_over}
 
 nothing_in : {A : Type 0} (xs : List A) → is_empty xs ≡ true → xs ≡ []
 nothing_in [] h = refl

@@ -1,13 +1,13 @@
 -- Which pipes a network has: those of each data module and each class.
 use Rattle.std.proofs.Common.{arith, inl, inr, refl, subst}
 use Rattle.std.specs.Prelude.{ℕ, suc, ◌≡◌, ◌≤◌, List, [], ◌∷◌, flat_map, length, slice_get, Some}
-use Rattle.sdd_obligations.proofs.Submitting.{le_true}
-use Rattle.sdd_obligations.proofs.invariants.Lists.{in_either, in_range}
-use Rattle.sdd_obligations.proofs.tm.Lists.{of_map as in_mapped}
-use Rattle.sdd_obligations.specs.All.{D, Input, IsSiteOf, dm_no, numbers_to, setting_of}
-use Rattle.sdd_obligations.specs.dm.Copies.{classes_of}
-use Rattle.sdd_watch.specs.Moments.{all_pipes, pipes_at_module}
-use Rattle.sdd_watch.proofs.PipesVisited.{IsPipeOf}
+use Rattle.sdd_app_inside.proofs.watch.obligations.Submitting.{le_true}
+use Rattle.sdd_app_inside.proofs.watch.obligations.invariants.Lists.{in_either, in_range}
+use Rattle.sdd_app_inside.proofs.watch.obligations.tm.Lists.{of_map as in_mapped}
+use Rattle.sdd_app_inside.specs.watch.obligations.All.{D, Input, IsSiteOf, dm_no, numbers_to, setting_of}
+use Rattle.sdd_app_inside.specs.watch.obligations.dm.Copies.{classes_of}
+use Rattle.sdd_app_inside.specs.watch.Moments.{all_pipes, pipes_at_module}
+use Rattle.sdd_app_inside.proofs.watch.PipesVisited.{IsPipeOf}
 
 pub at_flat : {A B : Type 0} (f : A → List B) (Q : B → Type 0) (xs : List A)
     → ((k : ℕ) (x : A) → slice_get xs k ≡ Some x → (j : ℕ) (y : B) → slice_get (f x) j ≡ Some y → Q y)

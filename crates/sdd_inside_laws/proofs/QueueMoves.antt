@@ -4,13 +4,13 @@ use Rattle.std.proofs.Common.{ap, append-nil, append_assoc, arith, eq-eqb, eqb-t
 use Rattle.std.proofs.lemmas.Bool.{false≢true}
 use Rattle.std.proofs.lemmas.List.{drop-append-le, drop-drop, length-append, map-append}
 use Rattle.std.specs.Prelude.{ℕ, zero, suc, ◌+◌, ◌==◌, ◌||◌, ◌≡◌, ◌≢◌, ◌≤◌, ◌⊎◌, true, false, cond, not, List, [], ◌∷◌, ◌++◌, drop, filter, length, map, Some, refl}
-use Rattle.sdd_obligations.proofs.invariants.Active.{step_way}
-use Rattle.sdd_obligations.proofs.invariants.Queues.{queue_is}
-use Rattle.sdd_obligations.specs.All.{Attempt, Did, Each, Setting, Submits, TxnNo, active, contains, current_era, queue, txn_no}
-use Rattle.sdd_obligations.specs.attempt.Queues.{Queued, is_for, queue_after, tried}
-use Rattle.sdd_obligations.specs.invariants.Steps.{IsFair, IsNew, IsServed}
-use Rattle.sdd_obligations.specs.site_module.SiteLog as site
-use Rattle.sdd_obligations.specs.site_module.SiteLog.{submits}
+use Rattle.sdd_app_inside.proofs.watch.obligations.invariants.Active.{step_way}
+use Rattle.sdd_app_inside.proofs.watch.obligations.invariants.Queues.{queue_is}
+use Rattle.sdd_app_inside.specs.watch.obligations.All.{Attempt, Did, Each, Setting, Submits, TxnNo, active, contains, current_era, queue, txn_no}
+use Rattle.sdd_app_inside.specs.watch.obligations.attempt.Queues.{Queued, is_for, queue_after, tried}
+use Rattle.sdd_app_inside.specs.watch.obligations.invariants.Steps.{IsFair, IsNew, IsServed}
+use Rattle.sdd_app_inside.specs.watch.obligations.site_module.SiteLog as site
+use Rattle.sdd_app_inside.specs.watch.obligations.site_module.SiteLog.{submits}
 use Rattle.sdd_inside_laws.proofs.QueueNumbers.{AllApart, AllDiffer, AllNew}
 
 abbrev pub numbers : List Queued → List TxnNo

@@ -7,7 +7,7 @@ use Rattle.std.proofs.lemmas.List.Sums.{prefix_len-le-length}
 use Rattle.std.proofs.Math.Seq.{drop-append_seam}
 use Rattle.std.specs.Prelude.{ℕ, zero, suc, ◌+◌, ◌-◌, ◌≡◌, ◌≢◌, ◌≤◌, false, not, List, [], ◌∷◌, ◌++◌, drop, length, refl}
 use Rattle.std.specs.List.{position_or_len}
-use Rattle.sdd_obligations.specs.All.{TxnNo}
+use Rattle.sdd_app_inside.specs.watch.obligations.All.{TxnNo}
 use Rattle.sdd_inside.specs.Differences.{came, gone, is_first}
 
 -- apart from all of a list; all different; all new beside a list

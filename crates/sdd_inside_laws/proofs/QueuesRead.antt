@@ -4,13 +4,13 @@ use Rattle.std.proofs.lemmas.Bool.{and_parts}
 use Rattle.std.proofs.lemmas.List.{map-append}
 use Rattle.std.specs.Prelude.{ℕ, ◌==◌, ◌&&◌, ◌≡◌, Bool, true, false, if◌then◌else◌, List, [], ◌∷◌, ◌++◌, drop, find, length, map, slice_get, None, Some, refl}
 use Rattle.std.specs.List.{flat_map}
-use Rattle.sdd_obligations.proofs.invariants.Bools.{not_zero}
-use Rattle.sdd_obligations.proofs.invariants.Fair.{all_new, home_fair}
-use Rattle.sdd_obligations.proofs.invariants.Lists.{in_filtered, in_range}
-use Rattle.sdd_obligations.proofs.invariants.Made.{local_grows}
-use Rattle.sdd_obligations.proofs.logs.NewMarks.{lawful_permitted}
-use Rattle.sdd_obligations.specs.All.{Each, Input, IsGood, IsPermitted, Log, Setting, Site, T, TxnNo, class_at, class_no, home, is_empty, local_of, numbers_to, queue, runs, setting_of, tm_no}
-use Rattle.sdd_obligations.specs.invariants.Steps.{IsFair, IsNew}
+use Rattle.sdd_app_inside.proofs.watch.obligations.invariants.Bools.{not_zero}
+use Rattle.sdd_app_inside.proofs.watch.obligations.invariants.Fair.{all_new, home_fair}
+use Rattle.sdd_app_inside.proofs.watch.obligations.invariants.Lists.{in_filtered, in_range}
+use Rattle.sdd_app_inside.proofs.watch.obligations.invariants.Made.{local_grows}
+use Rattle.sdd_app_inside.proofs.watch.obligations.logs.NewMarks.{lawful_permitted}
+use Rattle.sdd_app_inside.specs.watch.obligations.All.{Each, Input, IsGood, IsPermitted, Log, Setting, Site, T, TxnNo, class_at, class_no, home, is_empty, local_of, numbers_to, queue, runs, setting_of, tm_no}
+use Rattle.sdd_app_inside.specs.watch.obligations.invariants.Steps.{IsFair, IsNew}
 use Rattle.sdd_inside.specs.Differences.{came, changes, gone, queue_between}
 use Rattle.sdd_inside.specs.declared.delta.QueueDelta.{QueueDelta}
 use Rattle.sdd_inside.specs.declared.moment.QueueMoment.{QueueMoment}
@@ -20,11 +20,11 @@ use Rattle.sdd_inside_laws.proofs.Parts.{same_members}
 use Rattle.sdd_inside_laws.proofs.QueueMoves.{all_differ, numbers, queue_moved}
 use Rattle.sdd_inside_laws.proofs.QueueNumbers.{queue_told}
 use Rattle.sdd_inside_laws.specs.Reader.{is_queue_of, queue_classes, queue_moved as moved_by, read_queue}
-use Rattle.sdd_watch.proofs.Between.{joined_more}
-use Rattle.sdd_watch.specs.Happens.{happened_at}
-use Rattle.sdd_watch.specs.Moments.{queue_moment, queues_at, queues_of}
-use Rattle.sdd_watch.specs.Text.{change}
-use Rattle.sdd_watch.specs.Watching.{IsBetween}
+use Rattle.sdd_app_inside.proofs.watch.Between.{joined_more}
+use Rattle.sdd_app_inside.specs.watch.Happens.{happened_at}
+use Rattle.sdd_app_inside.specs.watch.Moments.{queue_moment, queues_at, queues_of}
+use Rattle.sdd_app_inside.specs.watch.Text.{change}
+use Rattle.sdd_app_inside.specs.watch.Watching.{IsBetween}
 
 -- the queues, by their classes alone
 

@@ -2,20 +2,20 @@
 use Rattle.std.proofs.Common.{ap, arith, inl, inr, lt-ltb, subst, sym, ◌∙◌}
 use Rattle.std.proofs.lemmas.Bool.{cases_lt}
 use Rattle.std.specs.Prelude.{ℕ, zero, suc, ◌-◌, ◌<◌, ◌≡◌, nat_le, Bool, true, false, if◌then◌else◌, List, [], ◌∷◌, ◌++◌, length, slice_get, Option, Some, None, refl}
-use Rattle.sdd_obligations.proofs.invariants.InOrder.{delivered_within, handed_le}
-use Rattle.sdd_obligations.proofs.invariants.Sent.{sent_grows}
-use Rattle.sdd_obligations.proofs.invariants.Sites.{site_is}
-use Rattle.sdd_obligations.proofs.logs.Completing.{OnlyMarksAreDue, complete_parts}
-use Rattle.sdd_obligations.proofs.logs.NewMarks.{lawful_permitted}
-use Rattle.sdd_obligations.specs.All.{Act, AllHanded, AllLinked, D, Deliver, Does, Down, Entry, Era, Event, Hand, Input, IsGood, IsLawful, IsTheLog, Log, Lose, Mark, Msg, Redeclares, Repeat, Resend, Rests, Site, Submit, Submitted, T, Tick, Txn, U, Up, all_links, delivered, does_at, due_by, first_some, good_input, hand_due, hand_number, hand_on, hand_with, handed, is_link, link_of, made, mark_due, marks, message_at, next, next_at, next_number, note_if, nth_era, or_else, redeclares, same_site, sends_of_act, sent, site_due, sites, takes_part, to_site, txn_at}
-use Rattle.sdd_obligations.specs.invariants.Made.{given_to, made_by_mark, put_by, redeclared_entry}
-use Rattle.sdd_obligations.specs.logs.Lawful.{IsWithin}
-use Rattle.sdd_obligations.specs.site_module.SiteLog as site
-use Rattle.sdd_obligations.specs.site_module.SiteLog.{Did, Handed, Ticked}
-use Rattle.sdd_watch.proofs.EachEvent.{event_of, lawful_at, at_self, marks_next}
-use Rattle.sdd_watch.proofs.run.progress.Handed.{link_there}
-use Rattle.sdd_watch.proofs.run.progress.Lists.{none_at}
-use Rattle.sdd_watch.specs.Moments.{at_event}
+use Rattle.sdd_app_inside.proofs.watch.obligations.invariants.InOrder.{delivered_within, handed_le}
+use Rattle.sdd_app_inside.proofs.watch.obligations.invariants.Sent.{sent_grows}
+use Rattle.sdd_app_inside.proofs.watch.obligations.invariants.Sites.{site_is}
+use Rattle.sdd_app_inside.proofs.watch.obligations.logs.Completing.{OnlyMarksAreDue, complete_parts}
+use Rattle.sdd_app_inside.proofs.watch.obligations.logs.NewMarks.{lawful_permitted}
+use Rattle.sdd_app_inside.specs.watch.obligations.All.{Act, AllHanded, AllLinked, D, Deliver, Does, Down, Entry, Era, Event, Hand, Input, IsGood, IsLawful, IsTheLog, Log, Lose, Mark, Msg, Redeclares, Repeat, Resend, Rests, Site, Submit, Submitted, T, Tick, Txn, U, Up, all_links, delivered, does_at, due_by, first_some, good_input, hand_due, hand_number, hand_on, hand_with, handed, is_link, link_of, made, mark_due, marks, message_at, next, next_at, next_number, note_if, nth_era, or_else, redeclares, same_site, sends_of_act, sent, site_due, sites, takes_part, to_site, txn_at}
+use Rattle.sdd_app_inside.specs.watch.obligations.invariants.Made.{given_to, made_by_mark, put_by, redeclared_entry}
+use Rattle.sdd_app_inside.specs.watch.obligations.logs.Lawful.{IsWithin}
+use Rattle.sdd_app_inside.specs.watch.obligations.site_module.SiteLog as site
+use Rattle.sdd_app_inside.specs.watch.obligations.site_module.SiteLog.{Did, Handed, Ticked}
+use Rattle.sdd_app_inside.proofs.watch.EachEvent.{event_of, lawful_at, at_self, marks_next}
+use Rattle.sdd_app_inside.proofs.run.progress.Handed.{link_there}
+use Rattle.sdd_app_inside.proofs.run.progress.Lists.{none_at}
+use Rattle.sdd_app_inside.specs.watch.Moments.{at_event}
 
 -- what a mark makes due, what a site does and what is handed over marks no event
 

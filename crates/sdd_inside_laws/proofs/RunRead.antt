@@ -12,18 +12,19 @@ use Rattle.sdd_inside_laws.proofs.BeforeFirst.{known_before}
 use Rattle.sdd_inside_laws.proofs.WholeRead.{whole_read}
 use Rattle.sdd_inside_laws.specs.Reader.{Known, known, read}
 use Rattle.sdd_inside_laws.specs.WholeRun.{IsReadBack, change_at, changes_to, nothing_yet, read_all}
-use Rattle.sdd_obligations.proofs.graph.Lists.{range_more}
-use Rattle.sdd_obligations.specs.All.{Catalogue, Input, IsGood, IsSoundCatalogue, IsTheLog, Log, marks, numbers_to}
-use Rattle.sdd_watch.proofs.EachEvent.{at_self}
-use Rattle.sdd_watch.proofs.run.Goods.{good_along}
-use Rattle.sdd_watch.proofs.run.class_lists.WholeSound.{whole_sound}
-use Rattle.sdd_watch.specs.Moments.{at_event}
-use Rattle.sdd_watch.specs.Text.{IsInsideOf, change, inside_text}
-use Rattle.sdd_obligations.specs.protocol.declared.entry.Entry.{Entry}
-use Rattle.sdd_watch.specs.run.Runs.{AreTables, input, input_of}
-use Rattle.sdd_watch.specs.run.script.Valid.{IsValid}
-use Rattle.sdd_watch.specs.run.script.declared.workload.Workload.{Workload}
-use Rattle.sdd_watch.specs.run.world.Copies.{tables_of}
+use Rattle.sdd_app_inside.proofs.watch.obligations.graph.Lists.{range_more}
+use Rattle.sdd_app_inside.specs.watch.obligations.All.{Catalogue, Input, IsGood, IsSoundCatalogue, IsTheLog, Log, marks, numbers_to}
+use Rattle.sdd_app_inside.proofs.watch.EachEvent.{at_self}
+use Rattle.sdd_app_inside.proofs.run.Goods.{good_along}
+use Rattle.sdd_app_inside.proofs.run.class_lists.WholeSound.{whole_sound}
+use Rattle.sdd_app_inside.specs.watch.Moments.{at_event}
+use Rattle.sdd_app_inside.specs.Text.{IsInsideOf}
+use Rattle.sdd_app_inside.specs.watch.Text.{change, inside_text}
+use Rattle.sdd_app_inside.specs.watch.obligations.protocol.declared.entry.Entry.{Entry}
+use Rattle.sdd_app_inside.specs.run.Runs.{AreTables, input, input_of}
+use Rattle.sdd_app_inside.specs.run.script.Valid.{IsValid}
+use Rattle.sdd_app_inside.specs.run.script.declared.workload.Workload.{Workload}
+use Rattle.sdd_app_inside.specs.run.world.Copies.{tables_of}
 
 -- one line more
 pub one_change : (g : Input) (log : Log) (n : ℕ) → changes_to g log (suc n) ≡ changes_to g log n ++ change g (at_event n log) (at_event (suc n) log) ∷ []

@@ -12,19 +12,19 @@ use Rattle.sdd_inside_laws.proofs.SmallPipes.{pipes_small}
 use Rattle.sdd_inside_laws.proofs.SmallPlaces.{HasFewModules, NamesSmall, taking_small}
 use Rattle.sdd_inside_laws.proofs.SmallQueues.{queues_small}
 use Rattle.sdd_inside_read.specs.Small.{IsSmallSite}
-use Rattle.sdd_obligations.proofs.catalog.Sound.{sound_whole}
-use Rattle.sdd_obligations.specs.All.{AtEach, Catalogue, D, Deliver, Event, Input, IsGood, IsSoundCatalogue, IsTheLog, Log, Lose, Site, T, U}
-use Rattle.sdd_obligations.specs.Bounds.{IsSmall}
-use Rattle.sdd_obligations.specs.protocol.declared.entry.Entry.{Entry}
-use Rattle.sdd_watch.proofs.run.Goods.{few_ticks}
-use Rattle.sdd_watch.proofs.run.Submissions.{once}
-use Rattle.sdd_watch.proofs.run.Whole.{events_valid}
-use Rattle.sdd_watch.proofs.run.class_lists.WholeSound.{whole_sound}
-use Rattle.sdd_watch.specs.Moments.{at_event}
-use Rattle.sdd_watch.specs.run.Runs.{AreTables, input_of}
-use Rattle.sdd_watch.specs.run.class_lists.InForce.{whole_in}
-use Rattle.sdd_watch.specs.run.script.Valid.{IsSite, IsValid, IsValidEvent}
-use Rattle.sdd_watch.specs.run.script.declared.workload.Workload.{Workload}
+use Rattle.sdd_app_inside.proofs.watch.obligations.catalog.Sound.{sound_whole}
+use Rattle.sdd_app_inside.specs.watch.obligations.All.{AtEach, Catalogue, D, Deliver, Event, Input, IsGood, IsSoundCatalogue, IsTheLog, Log, Lose, Site, T, U}
+use Rattle.sdd_app_inside.specs.watch.obligations.Bounds.{IsSmall}
+use Rattle.sdd_app_inside.specs.watch.obligations.protocol.declared.entry.Entry.{Entry}
+use Rattle.sdd_app_inside.proofs.run.Goods.{few_ticks}
+use Rattle.sdd_app_inside.proofs.run.Submissions.{once}
+use Rattle.sdd_app_inside.proofs.run.Whole.{events_valid}
+use Rattle.sdd_app_inside.proofs.run.class_lists.WholeSound.{whole_sound}
+use Rattle.sdd_app_inside.specs.watch.Moments.{at_event}
+use Rattle.sdd_app_inside.specs.run.Runs.{AreTables, input_of}
+use Rattle.sdd_app_inside.specs.run.class_lists.InForce.{whole_in}
+use Rattle.sdd_app_inside.specs.run.script.Valid.{IsSite, IsValid, IsValidEvent}
+use Rattle.sdd_app_inside.specs.run.script.declared.workload.Workload.{Workload}
 
 -- what the events of a valid schedule name
 

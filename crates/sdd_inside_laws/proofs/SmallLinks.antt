@@ -10,18 +10,18 @@ use Rattle.sdd_inside_laws.proofs.OfCatalogue.{each_flat, each_if}
 use Rattle.sdd_inside_laws.proofs.PacketsRead.{each_change}
 use Rattle.sdd_inside_laws.proofs.SmallPlaces.{AreSmallEnds, HasFewModules, ends_small}
 use Rattle.sdd_inside_read.specs.Small.{IsSmallHanded, IsSmallPacket, IsSmallPut}
-use Rattle.sdd_obligations.proofs.Limits.{handed_few, sent_few}
-use Rattle.sdd_obligations.proofs.logs.NewMarks.{lawful_permitted}
-use Rattle.sdd_obligations.proofs.net.Directions.{back_is}
-use Rattle.sdd_obligations.proofs.net.Lists.{All-at}
-use Rattle.sdd_obligations.proofs.net.Rounds.{links_exist}
-use Rattle.sdd_obligations.proofs.net.Sound.{delivered_le, sound}
-use Rattle.sdd_obligations.specs.All.{Ack, Input, IsGood, IsPermitted, Log, MAX_LINK_MESSAGES, Message, Msg, Packet, Site, all_links, calls_of, is_link, link_of, sent}
-use Rattle.sdd_obligations.specs.net.Sound.{IsOf}
-use Rattle.sdd_watch.specs.Happens.{happened_at}
-use Rattle.sdd_watch.specs.Moments.{link_moment}
-use Rattle.sdd_watch.specs.Text.{change}
-use Rattle.sdd_watch.specs.Watching.{IsBetween}
+use Rattle.sdd_app_inside.proofs.watch.obligations.Limits.{handed_few, sent_few}
+use Rattle.sdd_app_inside.proofs.watch.obligations.logs.NewMarks.{lawful_permitted}
+use Rattle.sdd_app_inside.proofs.watch.obligations.net.Directions.{back_is}
+use Rattle.sdd_app_inside.proofs.watch.obligations.net.Lists.{All-at}
+use Rattle.sdd_app_inside.proofs.watch.obligations.net.Rounds.{links_exist}
+use Rattle.sdd_app_inside.proofs.watch.obligations.net.Sound.{delivered_le, sound}
+use Rattle.sdd_app_inside.specs.watch.obligations.All.{Ack, Input, IsGood, IsPermitted, Log, MAX_LINK_MESSAGES, Message, Msg, Packet, Site, all_links, calls_of, is_link, link_of, sent}
+use Rattle.sdd_app_inside.specs.watch.obligations.net.Sound.{IsOf}
+use Rattle.sdd_app_inside.specs.watch.Happens.{happened_at}
+use Rattle.sdd_app_inside.specs.watch.Moments.{link_moment}
+use Rattle.sdd_app_inside.specs.watch.Text.{change}
+use Rattle.sdd_app_inside.specs.watch.Watching.{IsBetween}
 
 -- packets
 

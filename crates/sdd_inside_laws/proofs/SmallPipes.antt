@@ -10,25 +10,25 @@ use Rattle.sdd_inside_laws.proofs.PipesThere.{pipe_there}
 use Rattle.sdd_inside_laws.proofs.SmallLinks.{each_dropped}
 use Rattle.sdd_inside_laws.proofs.SmallPlaces.{HasFewModules, site_small}
 use Rattle.sdd_inside_read.specs.Small.{IsSmall, IsSmallPipe}
-use Rattle.sdd_obligations.proofs.Early.{times_below}
-use Rattle.sdd_obligations.proofs.Limits.{sent_few}
-use Rattle.sdd_obligations.proofs.invariants.InPipe.{in_pipe}
-use Rattle.sdd_obligations.proofs.logs.NewMarks.{lawful_permitted}
-use Rattle.sdd_obligations.specs.All.{D, Input, IsGood, IsLawful, IsPermitted, Log, MAX_LINK_MESSAGES, Msg, Null, Read, Site, Write, dm_no, goes_through, handed, home, local_of, pipe, puts_to, sent, time_of}
-use Rattle.sdd_obligations.specs.Bounds.{IsSmall as HasFewOfAll}
-use Rattle.sdd_obligations.specs.Heights.{times_of}
-use Rattle.sdd_obligations.specs.base.Words.{head_of}
-use Rattle.sdd_obligations.specs.dm.Due.{or_zero}
-use Rattle.sdd_obligations.specs.invariants.All.{AllLt, all_of}
-use Rattle.sdd_obligations.specs.logs.Lawful.{IsWithin}
-use Rattle.sdd_obligations.specs.net.Links.{numbered}
-use Rattle.sdd_obligations.specs.pipe.Pipe.{greatest, raised}
-use Rattle.sdd_watch.proofs.Came.{all_came}
-use Rattle.sdd_watch.proofs.Unapplied.{take_numbered}
-use Rattle.sdd_watch.specs.Happens.{happened_at}
-use Rattle.sdd_watch.specs.Moments.{all_pipes, came, number_through, pipe_moment, source, time_passed}
-use Rattle.sdd_watch.specs.Text.{change}
-use Rattle.sdd_watch.specs.Watching.{IsBetween}
+use Rattle.sdd_app_inside.proofs.watch.obligations.Early.{times_below}
+use Rattle.sdd_app_inside.proofs.watch.obligations.Limits.{sent_few}
+use Rattle.sdd_app_inside.proofs.watch.obligations.invariants.InPipe.{in_pipe}
+use Rattle.sdd_app_inside.proofs.watch.obligations.logs.NewMarks.{lawful_permitted}
+use Rattle.sdd_app_inside.specs.watch.obligations.All.{D, Input, IsGood, IsLawful, IsPermitted, Log, MAX_LINK_MESSAGES, Msg, Null, Read, Site, Write, dm_no, goes_through, handed, home, local_of, pipe, puts_to, sent, time_of}
+use Rattle.sdd_app_inside.specs.watch.obligations.Bounds.{IsSmall as HasFewOfAll}
+use Rattle.sdd_app_inside.specs.watch.obligations.Heights.{times_of}
+use Rattle.sdd_app_inside.specs.watch.obligations.base.Words.{head_of}
+use Rattle.sdd_app_inside.specs.watch.obligations.dm.Due.{or_zero}
+use Rattle.sdd_app_inside.specs.watch.obligations.invariants.All.{AllLt, all_of}
+use Rattle.sdd_app_inside.specs.watch.obligations.logs.Lawful.{IsWithin}
+use Rattle.sdd_app_inside.specs.watch.obligations.net.Links.{numbered}
+use Rattle.sdd_app_inside.specs.watch.obligations.pipe.Pipe.{greatest, raised}
+use Rattle.sdd_app_inside.proofs.watch.Came.{all_came}
+use Rattle.sdd_app_inside.proofs.watch.Unapplied.{take_numbered}
+use Rattle.sdd_app_inside.specs.watch.Happens.{happened_at}
+use Rattle.sdd_app_inside.specs.watch.Moments.{all_pipes, came, number_through, pipe_moment, source, time_passed}
+use Rattle.sdd_app_inside.specs.watch.Text.{change}
+use Rattle.sdd_app_inside.specs.watch.Watching.{IsBetween}
 
 -- numbers of messages
 

@@ -5,19 +5,19 @@ use Rattle.std.specs.Prelude.{◌≡◌, ◌≤◌, Bool, true, false, if◌then
 use Rattle.sdd_inside.specs.Differences.{takes_one}
 use Rattle.sdd_inside_read.specs.Small.{IsSmallSite, IsSmallTaking, IsSmall}
 use Rattle.sdd_inside_read.specs.Told.{Taking, taken_by, taking}
-use Rattle.sdd_obligations.proofs.logs.AsLists.{next_mark_is}
-use Rattle.sdd_obligations.proofs.logs.NextMark.{mark_is_next}
-use Rattle.sdd_obligations.proofs.logs.Rounding.{each_of_round}
-use Rattle.sdd_obligations.proofs.net.Directions.{link_parts}
-use Rattle.sdd_obligations.specs.All.{AtEach, D, Deliver, Entry, Event, Input, IsLawful, Log, Lose, Mark, Redeclare, Redeclares, Settle, Site, T, U, all_links, calls_of, is_link, is_site, quiet}
-use Rattle.sdd_obligations.specs.base.Words.{tail_of}
-use Rattle.sdd_obligations.specs.logs.Entries.{Round}
-use Rattle.sdd_obligations.specs.logs.Marks.{Ahead, BetweenRounds, InRound, ahead, events_ahead, from_event, greatest_bound, mark_ahead, mark_between, once_marked, once_quiet, with_round}
-use Rattle.sdd_obligations.specs.net.Links.{round}
-use Rattle.sdd_watch.proofs.Between.{last_is}
-use Rattle.sdd_watch.specs.Happens.{found_by, last_event}
-use Rattle.sdd_watch.specs.Text.{change}
-use Rattle.sdd_watch.specs.Watching.{IsBetween, IsMark}
+use Rattle.sdd_app_inside.proofs.watch.obligations.logs.AsLists.{next_mark_is}
+use Rattle.sdd_app_inside.proofs.watch.obligations.logs.NextMark.{mark_is_next}
+use Rattle.sdd_app_inside.proofs.watch.obligations.logs.Rounding.{each_of_round}
+use Rattle.sdd_app_inside.proofs.watch.obligations.net.Directions.{link_parts}
+use Rattle.sdd_app_inside.specs.watch.obligations.All.{AtEach, D, Deliver, Entry, Event, Input, IsLawful, Log, Lose, Mark, Redeclare, Redeclares, Settle, Site, T, U, all_links, calls_of, is_link, is_site, quiet}
+use Rattle.sdd_app_inside.specs.watch.obligations.base.Words.{tail_of}
+use Rattle.sdd_app_inside.specs.watch.obligations.logs.Entries.{Round}
+use Rattle.sdd_app_inside.specs.watch.obligations.logs.Marks.{Ahead, BetweenRounds, InRound, ahead, events_ahead, from_event, greatest_bound, mark_ahead, mark_between, once_marked, once_quiet, with_round}
+use Rattle.sdd_app_inside.specs.watch.obligations.net.Links.{round}
+use Rattle.sdd_app_inside.proofs.watch.Between.{last_is}
+use Rattle.sdd_app_inside.specs.watch.Happens.{found_by, last_event}
+use Rattle.sdd_app_inside.specs.watch.Text.{change}
+use Rattle.sdd_app_inside.specs.watch.Watching.{IsBetween, IsMark}
 
 -- the sites and the place of an event that may take a packet have numbers of 64 bits
 abbrev pub NamesSmall : Event → Type 0

@@ -11,17 +11,17 @@ use Rattle.sdd_inside_laws.proofs.QueueNumbers.{gone_is}
 use Rattle.sdd_inside_laws.proofs.QueuesRead.{all_queues, of_class}
 use Rattle.sdd_inside_laws.specs.Reader.{queue_classes}
 use Rattle.sdd_inside_read.specs.Small.{IsSmallQueue}
-use Rattle.sdd_obligations.proofs.Limits.{submits_few}
-use Rattle.sdd_obligations.proofs.logs.NewMarks.{lawful_permitted}
-use Rattle.sdd_obligations.proofs.needs.FewMarks.{marks_few}
-use Rattle.sdd_obligations.specs.All.{Act, Commit, Did, Input, IsGood, IsPermitted, Log, Records, Setting, Start, Submits, TxnNo, current_era, home, local_of, queue, setting_of, txn_no}
-use Rattle.sdd_obligations.specs.attempt.Queues.{Queued, is_for, queue_after, tried}
-use Rattle.sdd_obligations.specs.site_module.SiteLog as site
-use Rattle.sdd_obligations.specs.site_module.SiteLog.{submits}
-use Rattle.sdd_watch.specs.Happens.{happened_at}
-use Rattle.sdd_watch.specs.Moments.{queues_of}
-use Rattle.sdd_watch.specs.Text.{change}
-use Rattle.sdd_watch.specs.Watching.{IsBetween}
+use Rattle.sdd_app_inside.proofs.watch.obligations.Limits.{submits_few}
+use Rattle.sdd_app_inside.proofs.watch.obligations.logs.NewMarks.{lawful_permitted}
+use Rattle.sdd_app_inside.proofs.watch.obligations.needs.FewMarks.{marks_few}
+use Rattle.sdd_app_inside.specs.watch.obligations.All.{Act, Commit, Did, Input, IsGood, IsPermitted, Log, Records, Setting, Start, Submits, TxnNo, current_era, home, local_of, queue, setting_of, txn_no}
+use Rattle.sdd_app_inside.specs.watch.obligations.attempt.Queues.{Queued, is_for, queue_after, tried}
+use Rattle.sdd_app_inside.specs.watch.obligations.site_module.SiteLog as site
+use Rattle.sdd_app_inside.specs.watch.obligations.site_module.SiteLog.{submits}
+use Rattle.sdd_app_inside.specs.watch.Happens.{happened_at}
+use Rattle.sdd_app_inside.specs.watch.Moments.{queues_of}
+use Rattle.sdd_app_inside.specs.watch.Text.{change}
+use Rattle.sdd_app_inside.specs.watch.Watching.{IsBetween}
 
 -- how many stand in it
 

@@ -18,9 +18,9 @@ use Rattle.sdd_inside_laws.specs.Reader as reader
 use Rattle.sdd_inside_laws.specs.Reader.{Known, KnownLink, KnownPipe}
 use Rattle.sdd_inside_laws.specs.TextReader.{AreOfCatalogue, HaveOwnNames, by_names, flying, is_pipe_of, is_put_on, is_queue_of, left_of, message_of, pipe_moved, put_on, queue_moved, read_link, read_pipe, read_queue, read_told, text_link, text_pipe, text_queue}
 use Rattle.sdd_inside_read.specs.Told.{ToldPut, name_of, taken_by, taking, told, told_packet, told_pipe, told_put, told_queue}
-use Rattle.sdd_watch.specs.run.report.Names.{class_word}
-use Rattle.sdd_obligations.specs.All.{Catalogue, Deliver, Event, Lose, Site, Txn, TxnNo}
-use Rattle.sdd_obligations.specs.net.Links.{without_at}
+use Rattle.sdd_app_inside.specs.run.report.Names.{class_word}
+use Rattle.sdd_app_inside.specs.watch.obligations.All.{Catalogue, Deliver, Event, Lose, Site, Txn, TxnNo}
+use Rattle.sdd_app_inside.specs.watch.obligations.net.Links.{without_at}
 
 -- the first of images
 

@@ -3,8 +3,8 @@
 -- what came behind it, without so many from its front.
 use Rattle.std.specs.Prelude.{ℕ, ◌-◌, ◌==◌, ◌&&◌, Bool, if◌then◌else◌, List, [], ◌∷◌, ◌++◌, drop, filter_map, find, length, map, option_map, unwrap_or, Option, Some, None}
 use Rattle.std.specs.List.{flat_map}
-use Rattle.sdd_obligations.specs.All.{ClassNo, D, Deliver, DmNo, Event, Input, Log, Lose, Msg, Site, T, Ts, TxnNo, all_links, class_no, dm_no, handed, link_of, local_of, numbers_to, pipe, runs, same_site, sent, setting_of, time_at, tm_no}
-use Rattle.sdd_obligations.specs.net.Links.{without_at}
+use Rattle.sdd_app_inside.specs.watch.obligations.All.{ClassNo, D, Deliver, DmNo, Event, Input, Log, Lose, Msg, Site, T, Ts, TxnNo, all_links, class_no, dm_no, handed, link_of, local_of, numbers_to, pipe, runs, same_site, sent, setting_of, time_at, tm_no}
+use Rattle.sdd_app_inside.specs.watch.obligations.net.Links.{without_at}
 use Rattle.sdd_inside.specs.Differences.{is_of_link, takes_one}
 use Rattle.sdd_inside.specs.declared.delta.Delta.{Delta}
 use Rattle.sdd_inside.specs.declared.delta.Handed.{Handed}
@@ -16,8 +16,8 @@ use Rattle.sdd_inside.specs.declared.delta.QueueDelta.{QueueDelta}
 use Rattle.sdd_inside.specs.declared.delta.Taken.{Taken}
 use Rattle.sdd_inside.specs.declared.delta.Taken.TheVariants as takens
 use Rattle.sdd_inside.specs.declared.moment.QueueMoment.{QueueMoment}
-use Rattle.sdd_watch.specs.Happens.{taken}
-use Rattle.sdd_watch.specs.Moments.{all_pipes, came, passed_to, queues_of}
+use Rattle.sdd_app_inside.specs.watch.Happens.{taken}
+use Rattle.sdd_app_inside.specs.watch.Moments.{all_pipes, came, passed_to, queues_of}
 
 -- what is known
 

@@ -12,9 +12,9 @@ use Rattle.sdd_inside.specs.declared.delta.Taken.TheVariants as takens
 use Rattle.sdd_inside.specs.declared.moment.QueueMoment.{QueueMoment}
 use Rattle.sdd_inside_laws.specs.Reader.{Known, KnownLink, KnownPipe, handed_on}
 use Rattle.sdd_inside_read.specs.Told.{Ack, Again, First, Taking, Told, ToldPacket, ToldPipe, ToldPut, ToldQueue, name_of}
-use Rattle.sdd_watch.specs.run.report.Names.{class_word}
-use Rattle.sdd_obligations.specs.All.{Catalogue, DmNo, Site, Txn, same_site}
-use Rattle.sdd_obligations.specs.net.Links.{without_at}
+use Rattle.sdd_app_inside.specs.run.report.Names.{class_word}
+use Rattle.sdd_app_inside.specs.watch.obligations.All.{Catalogue, DmNo, Site, Txn, same_site}
+use Rattle.sdd_app_inside.specs.watch.obligations.net.Links.{without_at}
 
 -- what is known
 

@@ -1,16 +1,16 @@
 -- A whole run, read line by line: its lines, what a reader begins with, and what he has after so many lines.
 use Rattle.std.specs.Prelude.{ℕ, ◌-◌, ◌≡◌, ◌≤◌, List, [], ◌++◌, fold, map, take}
 use Rattle.std.specs.List.{flat_map}
-use Rattle.sdd_obligations.specs.All.{Input, Log, Site, all_links, class_no, dm_no, marks, numbers_to, time_at}
+use Rattle.sdd_app_inside.specs.watch.obligations.All.{Input, Log, Site, all_links, class_no, dm_no, marks, numbers_to, time_at}
 use Rattle.sdd_inside.specs.Lines.{beginning, line}
 use Rattle.sdd_inside.specs.declared.delta.Delta.{Delta}
 use Rattle.sdd_inside.specs.declared.moment.QueueMoment.{QueueMoment}
 use Rattle.sdd_inside_laws.specs.Reader.{Known, KnownLink, KnownPipe, known, queue_classes, read}
 use Rattle.sdd_inside_laws.specs.TextReader.{by_names, read_all_told}
 use Rattle.sdd_inside_read.specs.LineReader.{event_lines, read_line}
-use Rattle.sdd_watch.specs.Moments.{all_pipes, at_event}
-use Rattle.sdd_watch.specs.Text.{change}
-use Rattle.sdd_watch.specs.run.world.Copies.{tables_of}
+use Rattle.sdd_app_inside.specs.watch.Moments.{all_pipes, at_event}
+use Rattle.sdd_app_inside.specs.watch.Text.{change}
+use Rattle.sdd_app_inside.specs.run.world.Copies.{tables_of}
 
 -- what event k changed
 abbrev pub change_at : Input → Log → ℕ → Delta

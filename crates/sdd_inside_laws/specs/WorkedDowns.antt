@@ -3,10 +3,10 @@ use Rattle.std.specs.Prelude.{◌≡◌, List, [], ◌∷◌, ◌++◌, codes, m
 use Rattle.std.specs.Fmt.{digits}
 use Rattle.sdd_log_examples.specs.Downs.{input_of_down_and_up, input_of_down_twice, log_of_down_and_up, log_of_down_twice}
 use Rattle.sdd_log_examples.specs.HomesDown.{input_of_begun_once_up, input_of_rows_kept, log_of_begun_once_up, log_of_rows_kept}
-use Rattle.sdd_obligations.specs.All.{Catalogue, Txn}
+use Rattle.sdd_app_inside.specs.watch.obligations.All.{Catalogue, Txn}
 use Rattle.sdd_inside.specs.Examples.{named, txn}
 use Rattle.sdd_inside.specs.Json.{also}
-use Rattle.sdd_watch.specs.Text.{inside_text}
+use Rattle.sdd_app_inside.specs.watch.Text.{inside_text}
 use Rattle.sdd_inside_laws.specs.WorkedLines.{line_after}
 
 -- a whole text, of a log whose fragment has no name

@@ -11,12 +11,12 @@ use Rattle.sdd_log_examples.specs.Queries.{input_of_two_steps, log_of_two_steps}
 use Rattle.sdd_log_examples.specs.Released.{input_of_released, log_of_released}
 use Rattle.sdd_log_examples.specs.Undeclared.{input_of_undeclared, log_of_undeclared}
 use Rattle.sdd_log_examples.specs.Waits.{input_of_waits_for_two, log_of_waits_for_two}
-use Rattle.sdd_obligations.specs.All.{Catalogue, Input, Log, Txn}
+use Rattle.sdd_app_inside.specs.watch.obligations.All.{Catalogue, Input, Log, Txn}
 use Rattle.sdd_inside.specs.Examples.{named, txn}
 use Rattle.sdd_inside.specs.Json.{also}
 use Rattle.sdd_inside.specs.Lines.{line}
-use Rattle.sdd_watch.specs.Moments.{at_event}
-use Rattle.sdd_watch.specs.Text.{change}
+use Rattle.sdd_app_inside.specs.watch.Moments.{at_event}
+use Rattle.sdd_app_inside.specs.watch.Text.{change}
 
 -- the line of the event after so many others, by catalogue and transactions with names
 abbrev pub line_after : Catalogue → List Txn → Input → Log → ℕ → List ℕ

@@ -1,5 +1,5 @@
 ghost use Rattle.std.specs.Prelude.{ℕ, ◌≡◌, List};
-ghost use Rattle.sdd_obligations.specs.All.{Catalogue, Input, IsGood, IsSoundCatalogue, Log, Txn};
+ghost use Rattle.sdd_app_inside.specs.watch.obligations.All.{Catalogue, Input, IsGood, IsSoundCatalogue, Log, Txn};
 ghost use Rattle.sdd_inside.specs.Lines.{line};
 ghost use Rattle.sdd_inside.specs.declared.delta.Delta.{Delta};
 ghost use Rattle.sdd_inside_laws.specs.Reader.{Known, known, read};
@@ -7,12 +7,13 @@ ghost use Rattle.sdd_inside_laws.specs.TextReader.{AreOfCatalogue, HaveOwnNames,
 ghost use Rattle.sdd_inside_laws.specs.WholeRun.{IsReadBack, IsReadFromBytes};
 ghost use Rattle.sdd_inside_read.specs.LineReader.{read_line};
 ghost use Rattle.sdd_inside_read.specs.Small.{HasSmallNumbers};
-ghost use Rattle.sdd_obligations.specs.catalog.Naming.{AreNamed};
-ghost use Rattle.sdd_watch.specs.Text.{IsInsideOf, change};
-ghost use Rattle.sdd_watch.specs.Watching.{IsBetween};
-ghost use Rattle.sdd_watch.specs.run.Runs.{input};
-ghost use Rattle.sdd_watch.specs.run.script.Valid.{IsValid};
-ghost use Rattle.sdd_watch.specs.run.script.declared.workload.Workload.{Workload};
+ghost use Rattle.sdd_app_inside.specs.watch.obligations.catalog.Naming.{AreNamed};
+ghost use Rattle.sdd_app_inside.specs.Text.{IsInsideOf};
+ghost use Rattle.sdd_app_inside.specs.watch.Text.{change};
+ghost use Rattle.sdd_app_inside.specs.watch.Watching.{IsBetween};
+ghost use Rattle.sdd_app_inside.specs.run.Runs.{input};
+ghost use Rattle.sdd_app_inside.specs.run.script.Valid.{IsValid};
+ghost use Rattle.sdd_app_inside.specs.run.script.declared.workload.Workload.{Workload};
 
 /// A law: what a reader knew before an event and the line of the event give what there is after it. Of each link
 /// the flight, which is the old one without the packet that the event took, with what was put behind it; the

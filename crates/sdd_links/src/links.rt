@@ -1,4 +1,5 @@
-ghost use Rattle.std.specs.Prelude.{ℕ, ◌≡◌, ◌≤◌, ◌++◌, All, length, map, IfOk, OnOk};
+ghost use Rattle.std.specs.Prelude.{ℕ, ◌≡◌, ◌≤◌, ◌+◌, ◌++◌, All, length, map, IfOk, OnOk};
+ghost use Rattle.sdd_links.specs.Groups.{chains, groups};
 ghost use Rattle.std.specs.List.{list_any, flat_map};
 ghost use Rattle.sdd_lang.specs.All.{fragments_in};
 ghost use Rattle.sdd_links.specs.Linked.{by_class, by_fragment, end_of, has_seen, fragment_links, read_links, links};
@@ -27,23 +28,82 @@ pub fn find_links(
     requires exist { All (λ t. IsClass catalogue.now t.start.class × All (UseExists catalogue.now) t.start.uses) txns.now }
     ensures { IfOk result (λ made. made.items ≡ links catalogue.now marks.now txns.now) }
 {
-    let of_class = Groups::of(
-        alloc,
-        &class_pairs(alloc, txns)?,
-        catalogue.classes() as usize + 1,
-    )?;
-    let writers = Groups::of(
-        alloc,
-        &fragment_pairs(alloc, txns)?,
-        catalogue.fragments() as usize + 1,
-    )?;
     let mut links = Vec::new(alloc);
-    of_class.add_chains(&mut links)?;
-    writers.add_chains(&mut links)?;
-    for (place, reader) in txns.iter().enumerate() {
-        link_uses(&mut links, catalogue, marks, txns, &writers, place, reader)?;
-    }
+    link_classes(alloc, &mut links, catalogue, txns)?;
+    link_fragments(alloc, &mut links, catalogue, marks, txns)?;
     Ok(links)
+}
+
+/// Adds a link from each transaction to the next of its class.
+fn link_classes(
+    alloc: Global,
+    links: &mut Vec<(usize, usize)>,
+    catalogue: &Catalogue,
+    txns: &[Committed<'_>],
+) -> Result<(), NoMemory>
+    ensures { OnOk result (links.new.items ≡ links.old.items
+        ++ chains (groups (by_class txns.now) (length catalogue.now.classes + 1))) }
+{
+    let of_class = of_classes(alloc, catalogue, txns)?;
+    of_class.add_chains(links)
+}
+
+/// The transactions of each class.
+fn of_classes(
+    alloc: Global,
+    catalogue: &Catalogue,
+    txns: &[Committed<'_>],
+) -> Result<Groups, NoMemory>
+    ensures { IfOk result (λ made. made ≡ groups (by_class txns.now) (length catalogue.now.classes + 1)) }
+{
+    let pairs = class_pairs(alloc, txns)?;
+    Groups::of(alloc, &pairs, catalogue.classes() as usize + 1)
+}
+
+/// Adds a link from each writer of a fragment to the next, and those of its readers.
+fn link_fragments(
+    alloc: Global,
+    links: &mut Vec<(usize, usize)>,
+    catalogue: &Catalogue,
+    marks: &Marks,
+    txns: &[Committed<'_>],
+) -> Result<(), NoMemory>
+    requires exist { All (λ t. IsClass catalogue.now t.start.class × All (UseExists catalogue.now) t.start.uses) txns.now }
+    ensures { let writers = groups (by_fragment txns.now) (length catalogue.now.fragments + 1) in
+        OnOk result (links.new.items ≡ (links.old.items ++ chains writers) ++ read_links catalogue.now marks.now txns.now writers) }
+{
+    let writers = of_fragments(alloc, catalogue, txns)?;
+    writers.add_chains(links)?;
+    link_readers(links, catalogue, marks, txns, &writers)
+}
+
+/// The writers of each fragment.
+fn of_fragments(
+    alloc: Global,
+    catalogue: &Catalogue,
+    txns: &[Committed<'_>],
+) -> Result<Groups, NoMemory>
+    ensures { IfOk result (λ made. made ≡ groups (by_fragment txns.now) (length catalogue.now.fragments + 1)) }
+{
+    let pairs = fragment_pairs(alloc, txns)?;
+    Groups::of(alloc, &pairs, catalogue.fragments() as usize + 1)
+}
+
+/// Adds the links between writers of fragments and the transactions that read these.
+fn link_readers(
+    links: &mut Vec<(usize, usize)>,
+    catalogue: &Catalogue,
+    marks: &Marks,
+    txns: &[Committed<'_>],
+    writers: &Groups,
+) -> Result<(), NoMemory>
+    requires exist { All (λ t. IsClass catalogue.now t.start.class × All (UseExists catalogue.now) t.start.uses) txns.now }
+    ensures { OnOk result (links.new.items ≡ links.old.items ++ read_links catalogue.now marks.now txns.now writers.now) }
+{
+    for (place, reader) in txns.iter().enumerate() {
+        link_uses(links, catalogue, marks, txns, writers, place, reader)?;
+    }
+    Ok(())
 }
 
 /// Each transaction with its class.

@@ -121,7 +121,7 @@ pub use Rattle.sdd_outage.specs.Waiting.{asks as asks_by, is_wait, waits_for as 
 pub use Rattle.sdd_progress.proofs.Descent.{none_waits}
 pub use Rattle.sdd_progress.proofs.FewClasses.{member_is}
 pub use Rattle.sdd_progress.proofs.FromTable.{conditions_at_put}
-pub use Rattle.sdd_progress.proofs.Listed.{diagonals_listed}
+pub use Rattle.sdd_progress.proofs.ListedDiagonals.{diagonals_listed}
 pub use Rattle.sdd_progress.proofs.Marked.{next_is_of_events}
 pub use Rattle.sdd_progress.proofs.Passing.{head_below, passed_lasts, reached_is_passed}
 pub use Rattle.sdd_progress.proofs.QuietAfter.{quiet_at_last}

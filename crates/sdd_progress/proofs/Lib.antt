@@ -16,7 +16,7 @@ pub mod Beginning
 pub mod Bounds
 pub mod ClassSites
 pub mod Committed
-pub mod Copies
+pub mod CopiesAtEnd
 pub mod Counted
 pub mod CountedDones
 pub mod Descent
@@ -47,7 +47,7 @@ pub mod Lacking
 pub mod Last
 pub mod LateQuery
 pub mod Lines
-pub mod Listed
+pub mod ListedDiagonals
 pub mod Lists
 pub mod Marked
 pub mod Moves
@@ -94,3 +94,4 @@ pub mod WorkedLogs
 pub mod WorkedWaits
 pub mod Writers
 pub use Rattle.sdd_lawful.proofs as lawful
+pub use Rattle.sdd_obligations.proofs as obligations

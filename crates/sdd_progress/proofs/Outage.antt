@@ -5,7 +5,7 @@ use Rattle.sdd_lawful.proofs.Committed.{same_committed}
 use Rattle.sdd_obligations.specs.All.{IsClassOf}
 use Rattle.sdd_obligations.specs.links.Attempts.{changes}
 use Rattle.sdd_progress.proofs.Committed.{at_home_by, committed_where_none_queued}
-use Rattle.sdd_progress.proofs.Copies.{applied_at}
+use Rattle.sdd_progress.proofs.CopiesAtEnd.{applied_at}
 use Rattle.sdd_progress.proofs.Dones.{AreServedApplied}
 use Rattle.sdd_progress.proofs.Finished.{none_queued, off_hold_at}
 use Rattle.sdd_progress.proofs.NeededModules.{PassingsUp, home_up, passing_moves, passings_closed}

@@ -28,3 +28,4 @@ pub mod Waited
 pub mod Waiting
 pub mod WaitingReads
 pub use Rattle.sdd_lawful.specs as lawful
+pub use Rattle.sdd_obligations.specs as obligations

@@ -70,3 +70,9 @@ pub use quiet_law::{
 pub use rounds_law::{law_quiet_after_settle, law_rounds, law_rounds_end};
 pub use succession_law::{law_few_attempts_across_lists, law_lawful, law_timely};
 pub use worked::{law_all_lost, law_late_query, law_read_and_put};
+
+// What lies below, for the crates above.
+pub use sdd_obligations::{
+    Catalogue, Change, ClassNo, Conds, Copies, DmNo, Event, FragNo, Listed, Msg, NoMemory, Packet,
+    Packets, Pages, Parcel, Rec, Row, Site, Spelling, Table, TmNo, Ts, TxnNo, serial_order, table,
+};

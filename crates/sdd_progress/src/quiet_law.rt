@@ -9,7 +9,7 @@ pub fn law_table_fits()
 
 /// A law: each diagonal of the table with protocol P2 or P3 is one of the graph of waits. Takes no
 /// memory.
-#[tactic(auto, using(crate::proofs::Listed::diagonals_listed))]
+#[tactic(auto, using(crate::proofs::ListedDiagonals::diagonals_listed))]
 pub fn law_diagonals_listed()
     ensures { DiagonalsListed }
 {}

@@ -3,86 +3,86 @@ pub use Rattle.sdd_lists.proofs.WholeSound.{whole_sound}
 pub use Rattle.sdd_lists.specs.InForce.{classes_in, eras_in, whole_in}
 pub use Rattle.sdd_make.specs.Summary.{summary_of, summary_text}
 pub use Rattle.sdd_make.specs.declared.summary.Summary.{Summary}
-pub use Rattle.sdd_obligations.proofs.AtTurn.{answered_last, apart, awaited, unsent}
-pub use Rattle.sdd_obligations.proofs.needs.Done.{count_join}
-pub use Rattle.sdd_obligations.proofs.Halves.{home_turns}
-pub use Rattle.sdd_obligations.proofs.HandedAnswersKeepTurns.{AtTurn}
-pub use Rattle.sdd_obligations.proofs.HoldsFit.{chain_at}
-pub use Rattle.sdd_obligations.proofs.Linking.{lawful_part as lawful_end}
-pub use Rattle.sdd_obligations.proofs.LowClocks.{clock_low}
-pub use Rattle.sdd_obligations.proofs.Near.{HasNear, IsNearBy, active_near}
-pub use Rattle.sdd_obligations.proofs.SitesAndLinks.{site_there}
-pub use Rattle.sdd_obligations.proofs.ExchangesGoByTurns.{spoken}
-pub use Rattle.sdd_obligations.proofs.Starts.{small_home}
-pub use Rattle.sdd_obligations.proofs.base.Membership.{Contains-cases, Contains-here, Contains-later, Contains-nil}
+pub use Rattle.sdd_progress.proofs.obligations.AtTurn.{answered_last, apart, awaited, unsent}
+pub use Rattle.sdd_progress.proofs.obligations.needs.Done.{count_join}
+pub use Rattle.sdd_progress.proofs.obligations.Halves.{home_turns}
+pub use Rattle.sdd_progress.proofs.obligations.HandedAnswersKeepTurns.{AtTurn}
+pub use Rattle.sdd_progress.proofs.obligations.HoldsFit.{chain_at}
+pub use Rattle.sdd_progress.proofs.obligations.Linking.{lawful_part as lawful_end}
+pub use Rattle.sdd_progress.proofs.obligations.LowClocks.{clock_low}
+pub use Rattle.sdd_progress.proofs.obligations.Near.{HasNear, IsNearBy, active_near}
+pub use Rattle.sdd_progress.proofs.obligations.SitesAndLinks.{site_there}
+pub use Rattle.sdd_progress.proofs.obligations.ExchangesGoByTurns.{spoken}
+pub use Rattle.sdd_progress.proofs.obligations.Starts.{small_home}
+pub use Rattle.sdd_progress.proofs.obligations.base.Membership.{Contains-cases, Contains-here, Contains-later, Contains-nil}
 pub use Rattle.std.proofs.lemmas.Simd.{map-map}
-pub use Rattle.sdd_obligations.proofs.catalog.Sound.{sound_whole}
-pub use Rattle.sdd_obligations.proofs.class_eras.EraOfWhole.{era_of_whole}
-pub use Rattle.sdd_obligations.proofs.class_eras.EraSets.{era_of_itself}
-pub use Rattle.sdd_obligations.proofs.invariants.Bools.{and_left, and_right, differ, not_both, not_zero, same_number, same_or_not, true_or_false}
-pub use Rattle.sdd_obligations.proofs.invariants.Fair.{home_fair}
-pub use Rattle.sdd_obligations.proofs.invariants.Holding.{none_of as no_active}
-pub use Rattle.sdd_obligations.proofs.invariants.Lists.{at_seam, in_filtered, in_range}
-pub use Rattle.sdd_obligations.proofs.invariants.Made.{permitted_before}
-pub use Rattle.sdd_obligations.proofs.invariants.Serving.{zero_head}
-pub use Rattle.sdd_obligations.proofs.invariants.logs.Marking.{no_redeclare, part_redeclared as same_part}
-pub use Rattle.sdd_obligations.proofs.invariants.logs.Steps.{none_does as no_act}
-pub use Rattle.sdd_obligations.proofs.invariants.logs.tm.Lists.{of_map as in_mapped}
-pub use Rattle.sdd_obligations.proofs.invariants.logs.umod.Lists.{or_nothing as or_none}
-pub use Rattle.sdd_obligations.proofs.umod.Counts.{counts_tm}
-pub use Rattle.sdd_obligations.proofs.lang.StaysDatabase.{no_database, rows_make_database}
-pub use Rattle.sdd_obligations.proofs.laws.Members.{Contains-from_filter, Contains-from_filter_map, Contains-from_flat_map, Contains-from_map}
-pub use Rattle.sdd_obligations.proofs.laws.SameCopies.{equal_copies}
-pub use Rattle.sdd_obligations.proofs.logs.Completing.{OnlyMarksAreDue, complete_parts, none_left}
-pub use Rattle.sdd_obligations.proofs.logs.EachLocal.{allowed_act}
-pub use Rattle.sdd_obligations.proofs.logs.NewMarks.{lawful_permitted, left_is, marked}
-pub use Rattle.sdd_obligations.proofs.logs.One.{limit_or_complete, one_log}
-pub use Rattle.sdd_obligations.proofs.logs.Steps.{none_any_base}
-pub use Rattle.sdd_obligations.proofs.logs.Ticking.{first_none}
-pub use Rattle.sdd_obligations.proofs.net.Lists.{All-at}
-pub use Rattle.sdd_obligations.proofs.protocol.Laws.{one_table}
-pub use Rattle.sdd_obligations.proofs.links.Places.{same_start}
-pub use Rattle.sdd_obligations.proofs.serial_orders.Serial.{serial_order_is}
-pub use Rattle.sdd_obligations.proofs.Conditions.{AllWithin, act_within}
-pub use Rattle.sdd_obligations.proofs.invariants.AreReadSteps.{class_in_view}
-pub use Rattle.sdd_obligations.proofs.invariants.Installed.{head_put}
-pub use Rattle.sdd_obligations.proofs.invariants.Answered.{of_attempt, read_of}
-pub use Rattle.sdd_obligations.proofs.Modules.{firsts, to_module}
-pub use Rattle.sdd_obligations.specs.needs.AfterEvents.{down_from}
-pub use Rattle.sdd_obligations.specs.All.{Act, AllFewTicks, Answer, AreAllApplied, AreSubmittedOnce, Catalogue, Class, ClassNo, ClassState, Commit, Committed, Cond, Condition, D, Deliver, DmNo, Does, Down, EndsByLimit, Era, Eras, Event, FitsCondition, FitsInput, FitsStart, FitsStatement, FragNo, Hand, HasCommit, History, Input, IsAttempt, IsAwaited, IsClass, IsClassOf, IsCommitted, IsDatabase, IsEra, IsEraOf, IsGood, IsHeld, IsLawful, IsModule, IsOrderable, IsPermitted, IsPossible, IsRecordAt, IsSerial, IsSoundCatalogue, IsSubmitted, IsTable, IsTheLog, KeepsStarts, Kept, Log, Lose, MAX_DMS, MAX_TMS, Mark, Msg, Notes, Nothing, PutsHeld, Queued, Read, Rec, Records, Redeclare, Redeclares, Reject, RelNo, Repeat, Reply, Resend, Rests, Round, Row, Setting, Settle, Site, Standing, Stmt, Submitted, T, Tick, TmCounts, Ts, Txn, TxnNo, U, Up, Use, Wait, active, after_mark, all_links, are_linked, attempt_due, attempt_of, base_of, by_event, by_mark, calls_of, class_at, class_no, committed, contains, contents, counts, database_of, dated, dm_no, due_by, event_at, hand_due, hand_on, has_copy, head, head_of, history, home, is_apply, is_empty, is_link, is_over, is_site, last_served, left, link_of, local_of, mark_from, mark_of, marks, next, next_at, note_if, nth_era, numbers_to, one_if, pipe_at, placed, queue, quiet, redeclares, redeclares_in, rows_of, run, runs, send_due, setting_of, site_due, standing_among, standing_in, submits_in, time_at, tm_no, turn_at, txn_at, txn_no, with_event}
-pub use Rattle.sdd_obligations.specs.Bounds.{IsSmall}
-pub use Rattle.sdd_obligations.specs.needs.Inputs.{HasEras, ticks_of}
-pub use Rattle.sdd_obligations.specs.attempt.Line.{Line}
-pub use Rattle.sdd_obligations.specs.attempt.Standings.{lower, lowest, or_standing, queued_at, site_of, standing_by, standing_of, underway, waiting}
-pub use Rattle.sdd_obligations.specs.base.declared.limits.TheConstants.{MAX_TICKS}
-pub use Rattle.sdd_obligations.specs.copy.Contents.{Dated}
+pub use Rattle.sdd_progress.proofs.obligations.catalog.Sound.{sound_whole}
+pub use Rattle.sdd_progress.proofs.obligations.class_eras.EraOfWhole.{era_of_whole}
+pub use Rattle.sdd_progress.proofs.obligations.class_eras.EraSets.{era_of_itself}
+pub use Rattle.sdd_progress.proofs.obligations.invariants.Bools.{and_left, and_right, differ, not_both, not_zero, same_number, same_or_not, true_or_false}
+pub use Rattle.sdd_progress.proofs.obligations.invariants.Fair.{home_fair}
+pub use Rattle.sdd_progress.proofs.obligations.invariants.Holding.{none_of as no_active}
+pub use Rattle.sdd_progress.proofs.obligations.invariants.Lists.{at_seam, in_filtered, in_range}
+pub use Rattle.sdd_progress.proofs.obligations.invariants.Made.{permitted_before}
+pub use Rattle.sdd_progress.proofs.obligations.invariants.Serving.{zero_head}
+pub use Rattle.sdd_progress.proofs.obligations.invariants.logs.Marking.{no_redeclare, part_redeclared as same_part}
+pub use Rattle.sdd_progress.proofs.obligations.invariants.logs.Steps.{none_does as no_act}
+pub use Rattle.sdd_progress.proofs.obligations.invariants.logs.tm.Lists.{of_map as in_mapped}
+pub use Rattle.sdd_progress.proofs.obligations.invariants.logs.umod.Lists.{or_nothing as or_none}
+pub use Rattle.sdd_progress.proofs.obligations.umod.Counts.{counts_tm}
+pub use Rattle.sdd_progress.proofs.obligations.lang.StaysDatabase.{no_database, rows_make_database}
+pub use Rattle.sdd_progress.proofs.obligations.laws.Members.{Contains-from_filter, Contains-from_filter_map, Contains-from_flat_map, Contains-from_map}
+pub use Rattle.sdd_progress.proofs.obligations.laws.SameCopies.{equal_copies}
+pub use Rattle.sdd_progress.proofs.obligations.logs.Completing.{OnlyMarksAreDue, complete_parts, none_left}
+pub use Rattle.sdd_progress.proofs.obligations.logs.EachLocal.{allowed_act}
+pub use Rattle.sdd_progress.proofs.obligations.logs.NewMarks.{lawful_permitted, left_is, marked}
+pub use Rattle.sdd_progress.proofs.obligations.logs.One.{limit_or_complete, one_log}
+pub use Rattle.sdd_progress.proofs.obligations.logs.Steps.{none_any_base}
+pub use Rattle.sdd_progress.proofs.obligations.logs.Ticking.{first_none}
+pub use Rattle.sdd_progress.proofs.obligations.net.Lists.{All-at}
+pub use Rattle.sdd_progress.proofs.obligations.protocol.Laws.{one_table}
+pub use Rattle.sdd_progress.proofs.obligations.links.Places.{same_start}
+pub use Rattle.sdd_progress.proofs.obligations.serial_orders.Serial.{serial_order_is}
+pub use Rattle.sdd_progress.proofs.obligations.Conditions.{AllWithin, act_within}
+pub use Rattle.sdd_progress.proofs.obligations.invariants.AreReadSteps.{class_in_view}
+pub use Rattle.sdd_progress.proofs.obligations.invariants.Installed.{head_put}
+pub use Rattle.sdd_progress.proofs.obligations.invariants.Answered.{of_attempt, read_of}
+pub use Rattle.sdd_progress.proofs.obligations.Modules.{firsts, to_module}
+pub use Rattle.sdd_progress.specs.obligations.needs.AfterEvents.{down_from}
+pub use Rattle.sdd_progress.specs.obligations.All.{Act, AllFewTicks, Answer, AreAllApplied, AreSubmittedOnce, Catalogue, Class, ClassNo, ClassState, Commit, Committed, Cond, Condition, D, Deliver, DmNo, Does, Down, EndsByLimit, Era, Eras, Event, FitsCondition, FitsInput, FitsStart, FitsStatement, FragNo, Hand, HasCommit, History, Input, IsAttempt, IsAwaited, IsClass, IsClassOf, IsCommitted, IsDatabase, IsEra, IsEraOf, IsGood, IsHeld, IsLawful, IsModule, IsOrderable, IsPermitted, IsPossible, IsRecordAt, IsSerial, IsSoundCatalogue, IsSubmitted, IsTable, IsTheLog, KeepsStarts, Kept, Log, Lose, MAX_DMS, MAX_TMS, Mark, Msg, Notes, Nothing, PutsHeld, Queued, Read, Rec, Records, Redeclare, Redeclares, Reject, RelNo, Repeat, Reply, Resend, Rests, Round, Row, Setting, Settle, Site, Standing, Stmt, Submitted, T, Tick, TmCounts, Ts, Txn, TxnNo, U, Up, Use, Wait, active, after_mark, all_links, are_linked, attempt_due, attempt_of, base_of, by_event, by_mark, calls_of, class_at, class_no, committed, contains, contents, counts, database_of, dated, dm_no, due_by, event_at, hand_due, hand_on, has_copy, head, head_of, history, home, is_apply, is_empty, is_link, is_over, is_site, last_served, left, link_of, local_of, mark_from, mark_of, marks, next, next_at, note_if, nth_era, numbers_to, one_if, pipe_at, placed, queue, quiet, redeclares, redeclares_in, rows_of, run, runs, send_due, setting_of, site_due, standing_among, standing_in, submits_in, time_at, tm_no, turn_at, txn_at, txn_no, with_event}
+pub use Rattle.sdd_progress.specs.obligations.Bounds.{IsSmall}
+pub use Rattle.sdd_progress.specs.obligations.needs.Inputs.{HasEras, ticks_of}
+pub use Rattle.sdd_progress.specs.obligations.attempt.Line.{Line}
+pub use Rattle.sdd_progress.specs.obligations.attempt.Standings.{lower, lowest, or_standing, queued_at, site_of, standing_by, standing_of, underway, waiting}
+pub use Rattle.sdd_progress.specs.obligations.base.declared.limits.TheConstants.{MAX_TICKS}
+pub use Rattle.sdd_progress.specs.obligations.copy.Contents.{Dated}
 pub use Rattle.sdd_schedule.specs.world.data_module.State.{State}
-pub use Rattle.sdd_obligations.specs.dm.Waiting.{conds_of, waiting_at}
-pub use Rattle.sdd_obligations.specs.history.declared.record.Rec.TheVariants.{Submit}
-pub use Rattle.sdd_obligations.specs.lang.Database.{Item}
-pub use Rattle.sdd_obligations.specs.lang.declared.assign.Assign.{Assign}
-pub use Rattle.sdd_obligations.specs.laws.Copied.{AreAppliedAlike}
-pub use Rattle.sdd_obligations.specs.laws.Replay.{IsReplyOf}
-pub use Rattle.sdd_obligations.specs.logs.Due.{home_of}
-pub use Rattle.sdd_obligations.specs.logs.Marks.{from_event}
-pub use Rattle.sdd_obligations.specs.logs.Traffic.{turned_by}
-pub use Rattle.sdd_obligations.specs.protocol.declared.entry.Entry.{Entry}
-pub use Rattle.sdd_obligations.specs.links.Attempts.{Attempt}
-pub use Rattle.sdd_obligations.specs.serial_orders.Orders.{IsAlong}
-pub use Rattle.sdd_obligations.specs.links.Places.{record_at}
-pub use Rattle.sdd_obligations.specs.links.Precedence.{precedes}
-pub use Rattle.sdd_obligations.specs.serial_orders.SerialOrder.{serial_order}
-pub use Rattle.sdd_obligations.specs.tm.State.{class_of}
-pub use Rattle.sdd_obligations.specs.umod.Views.{tm_of}
-pub use Rattle.sdd_obligations.specs.dm.Views.{ClassView, View, view_of}
-pub use Rattle.sdd_obligations.specs.dm.Due.{is_met}
-pub use Rattle.sdd_obligations.specs.pipe.Pipe.{passed}
-pub use Rattle.sdd_obligations.specs.dm.Pipes.{pipe, waits}
-pub use Rattle.sdd_obligations.specs.attempt.Exchange.{Exchange}
-pub use Rattle.sdd_obligations.specs.Turns.{Turn}
+pub use Rattle.sdd_progress.specs.obligations.dm.Waiting.{conds_of, waiting_at}
+pub use Rattle.sdd_progress.specs.obligations.history.declared.record.Rec.TheVariants.{Submit}
+pub use Rattle.sdd_progress.specs.obligations.lang.Database.{Item}
+pub use Rattle.sdd_progress.specs.obligations.lang.declared.assign.Assign.{Assign}
+pub use Rattle.sdd_progress.specs.obligations.laws.Copied.{AreAppliedAlike}
+pub use Rattle.sdd_progress.specs.obligations.laws.Replay.{IsReplyOf}
+pub use Rattle.sdd_progress.specs.obligations.logs.Due.{home_of}
+pub use Rattle.sdd_progress.specs.obligations.logs.Marks.{from_event}
+pub use Rattle.sdd_progress.specs.obligations.logs.Traffic.{turned_by}
+pub use Rattle.sdd_progress.specs.obligations.protocol.declared.entry.Entry.{Entry}
+pub use Rattle.sdd_progress.specs.obligations.links.Attempts.{Attempt}
+pub use Rattle.sdd_progress.specs.obligations.serial_orders.Orders.{IsAlong}
+pub use Rattle.sdd_progress.specs.obligations.links.Places.{record_at}
+pub use Rattle.sdd_progress.specs.obligations.links.Precedence.{precedes}
+pub use Rattle.sdd_progress.specs.obligations.serial_orders.SerialOrder.{serial_order}
+pub use Rattle.sdd_progress.specs.obligations.tm.State.{class_of}
+pub use Rattle.sdd_progress.specs.obligations.umod.Views.{tm_of}
+pub use Rattle.sdd_progress.specs.obligations.dm.Views.{ClassView, View, view_of}
+pub use Rattle.sdd_progress.specs.obligations.dm.Due.{is_met}
+pub use Rattle.sdd_progress.specs.obligations.pipe.Pipe.{passed}
+pub use Rattle.sdd_progress.specs.obligations.dm.Pipes.{pipe, waits}
+pub use Rattle.sdd_progress.specs.obligations.attempt.Exchange.{Exchange}
+pub use Rattle.sdd_progress.specs.obligations.Turns.{Turn}
 pub use Rattle.sdd_progress.proofs.AtRest.{commit_there, rest}
 pub use Rattle.sdd_progress.proofs.Committed.{IsQueued, any_commit, committed_or_queued}
-pub use Rattle.sdd_progress.proofs.Copies.{applied_at_copies}
+pub use Rattle.sdd_progress.proofs.CopiesAtEnd.{applied_at_copies}
 pub use Rattle.sdd_progress.proofs.ErasOf.{are_eras_of, marks_up as marks_later}
 pub use Rattle.sdd_progress.proofs.Fronts.{history_le, recorded_front, redeclare_between}
 pub use Rattle.sdd_progress.proofs.IdleAtRedeclares.{at_redeclare}

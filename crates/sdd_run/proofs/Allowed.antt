@@ -1,6 +1,6 @@
 -- The events of a valid workload are allowed.
 use Rattle.sdd_run.proofs.All.{All, All-head, All-tail, AreAllowed, Catalogue, ClassList, D, Deliver, Down, Era, Event, Input, IsGood, IsLink, IsPossible, IsSite, IsValidEvent, List, Lose, Redeclare, Repeat, Resend, Settle, Site, Some, T, Tick, U, Up, [], ap, append_assoc, are_linked, arith, count_join, drop, era_of_list, false, get_or, is_link, is_site, length, lists_after, map, redeclares_in, refl, slice_get, subst, suc, sym, takes_rounds, true, with_event, zero, ℕ, ◌&&◌, ◌++◌, ◌-◌, ◌<◌, ◌∙◌, ◌∷◌, ◌≡◌}
-use Rattle.sdd_obligations.specs.All.{Submit}
+use Rattle.sdd_progress.specs.obligations.All.{Submit}
 use Rattle.sdd_run.proofs.Modules.{module_of, numbered}
 
 member : {A : Type 0} (xs : List A) (i : ℕ) → i < length xs → (x : A) × (slice_get xs i ≡ Some x)

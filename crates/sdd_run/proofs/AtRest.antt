@@ -1,8 +1,8 @@
 -- Where a settle or a redeclare is the last of the events, the links are quiet at the end.
 use Rattle.sdd_run.proofs.All.{Bool, Event, Input, IsAtRest, IsLawful, List, Log, Mark, None, OnlyMarksAreDue, Redeclare, Redeclares, Settle, Some, Up, [], after_mark, all_links, ap, arith, at_redeclare, calls_of, complete_parts, false, first_none, from_event, hand_due, hand_on, inl, inr, left, mark_from, mark_of, next, next_is_of_events, no_redeclare, none_any_base, none_left, quiet, quiet_at_last, refl, same_part, site_due, subst, suc, sym, tail_of, true, with_event, ℕ, ◌++◌, ◌∙◌, ◌∷◌, ◌≡◌, ◌⊎◌}
-use Rattle.sdd_obligations.proofs.logs.Steps.{none_does, none_more}
-use Rattle.sdd_obligations.specs.All.{Entry, base_of, does_at, local_of, next_at, nth_era, redeclares, sites}
-use Rattle.sdd_obligations.specs.site_module.SiteLog as site
+use Rattle.sdd_progress.proofs.obligations.logs.Steps.{none_does, none_more}
+use Rattle.sdd_progress.specs.obligations.All.{Entry, base_of, does_at, local_of, next_at, nth_era, redeclares, sites}
+use Rattle.sdd_progress.specs.obligations.site_module.SiteLog as site
 
 -- whether the last of the events is a redeclare, where it is given what holds of none
 

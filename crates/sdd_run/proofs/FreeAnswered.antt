@@ -1,6 +1,6 @@
 -- A READ of a free class is answered in the event in which it is handed over.
 use Rattle.sdd_run.proofs.All.{Answer, AreSubmittedOnce, ClassNo, Cond, D, DmNo, Does, EndsAnEvent, Hand, Input, IsAnsweredIn, IsAnsweredWithin, IsEventOver, IsFreeClass, IsLawful, IsPermitted, IsRecordAt, IsSoundCatalogue, IsTheLog, List, Log, Msg, Read, Rec, Records, Site, Ts, TxnNo, Use, [], act_kind, answered_by_end, ap, append_assoc, arith, begins_event, event_at, event_there, false, history, inl, inr, lawful_end, lawful_permitted, length, marks, marks_later, over_at_end, over_before, permitted_before, recorded_there, refl, subst, sym, true, ℕ, ◌++◌, ◌∙◌, ◌∷◌, ◌≡◌, ◌≤◌, ◌⊎◌}
-use Rattle.sdd_obligations.specs.All.{Entry}
+use Rattle.sdd_progress.specs.obligations.All.{Entry}
 
 -- the entries after a place, till the event there is over
 

@@ -1,7 +1,7 @@
 -- An attempt of a free class neither waits nor is rejected.
 use Rattle.sdd_run.proofs.All.{Act, Attempt, ClassNo, Cond, D, DmNo, Does, Eras, Input, IsAttempt, IsDataIn, IsFreeClass, IsPermitted, IsRecordAt, IsRejectOf, IsUndisturbed, IsWaitOf, KeepsStarts, List, Log, Msg, Read, Rec, Records, Reject, Setting, Site, Some, Ts, TxnNo, Use, Wait, allowed_act, ap, class_no, data_in, dm_no, head, history, local_of, never_rejected, never_waits, one_class, pipe_at, read_of_some, refl, rejected, setting_of, subst, sym, time_at, txn_no, wait_due, ℕ, ◌++◌, ◌∙◌, ◌∷◌, ◌≡◌}
-use Rattle.sdd_obligations.specs.All.{Entry}
-use Rattle.sdd_obligations.specs.site_module.SiteLog as site
+use Rattle.sdd_progress.specs.obligations.All.{Entry}
+use Rattle.sdd_progress.specs.obligations.site_module.SiteLog as site
 
 wait_names : (c k : ℕ) (n m : TxnNo) (i j : ℕ) (d e : DmNo) (qs rs : List Cond) (s t : List (Site × Msg))
     → Records c (Wait n i d qs) s ≡ Records k (Wait m j e rs) t → (n ≡ m) × (i ≡ j)

@@ -1,11 +1,11 @@
 -- What is given by a valid workload is what the modules' facts ask for, with each part of its schedule.
-use Rattle.sdd_obligations.proofs.AllObligations.{all_obligations}
+use Rattle.sdd_progress.proofs.obligations.AllObligations.{all_obligations}
 use Rattle.sdd_run.proofs.All.{All, All-at, All-cons, All-head, All-nil, All-tail, All-weaker, AllFewTicks, AreTables, Catalogue, Entry, Event, FitsInput, FitsStart, HoldsValues, IsDatabase, IsGood, IsHeld, IsSoundCatalogue, IsValid, IsValidEvent, IsValidRow, IsValidTxn, IsValue, List, MAX_TICKS, PutsHeld, RelNo, Row, Stmt, Value, Workload, [], arith, both as and_both, database_of, first_input, get_or as slice_index_or, inl, inr, le-leb, length, map, nat_le, no_database, numbers_to, refl, rows_make_database, subst, suc, sym, ticks_of, whole_in, zero, ℕ, ◌++◌, ◌-◌, ◌∷◌, ◌≡◌, ◌≤◌, ◌⊎◌}
 use Rattle.sdd_run.proofs.Allowed.{IsGoodAlong}
 use Rattle.sdd_run.proofs.ErasWithTables.{has_eras}
 use Rattle.sdd_run.proofs.Submissions.{once, once_before}
 use Rattle.sdd_run.proofs.Whole.{events_valid, rows_valid, txns_valid}
-use Rattle.sdd_obligations.specs.base.declared.value.Value.TheVariants as values
+use Rattle.sdd_progress.specs.obligations.base.declared.value.Value.TheVariants as values
 
 -- values are numbers of 64 bits, or texts
 pub held : (v : Value) → IsValue v → IsHeld v

@@ -1,6 +1,6 @@
 -- A copy at which all is applied that changed its fragment has the rows that one plain database is left with.
 use Rattle.sdd_run.proofs.All.{AreAllApplied, AreAppliedAlike, Catalogue, Committed, Contains, Contains-from_filter, Contains-from_flat_map, Contains-from_map, CopyTable, D, Dated, Event, FragNo, HasSoundData, HasSoundLists, History, Input, IsMadeAt, IsPermitted, IsSerial, IsSoundCatalogue, Item, List, Log, Lose, Mark, None, Notes, Nothing, Option, Rec, RelNo, Row, TxnNo, U, [], ap, are_eras_of, arith, attempt_of, by_event, by_mark, committed, cons_option, contents, dated, dm_no, due_by, equal_copies, eras_of, filter, filter_map, flat_map, has_copy, history, is_apply, is_none, left_in_copies, length, link_of, list_any, local_of, map, map-map, note_if, numbers_to, placed, refl, rows_left, run, same_copy, setting_of, slice_get_past, subst, suc, sym, table_of, tables_at, tables_of, take-append_seam, take_all, true, ℕ, ◌++◌, ◌-◌, ◌∙◌, ◌∷◌, ◌≡◌}
-use Rattle.sdd_obligations.specs.laws.Snapshots as laws
+use Rattle.sdd_progress.specs.obligations.laws.Snapshots as laws
 
 -- The copies at the end of a log are those before a record after it: that of an event which finds nothing to do, as one
 -- that loses a packet which isn't there.

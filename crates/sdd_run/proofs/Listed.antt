@@ -1,9 +1,9 @@
 -- Each transaction that was submitted and isn't committed is listed as pending.
 use Rattle.sdd_run.proofs.All.{AreNumbered, Bool, ClassState, Commit, HasSoundLists, History, Input, IsClass, IsClassOf, IsListed, IsPermitted, IsQueued, IsRecordAt, IsSubmitted, Line, List, Log, None, NonePasses, Option, Pending, Queued, Rec, Site, Some, Standing, Submit, T, WasCommitted, Why, [], active, ap, arith, at_home, at_map, class_at, class_of, commits, committed_or_queued, cons_option, either, eqb-true, false, filter_map, history, home, home_setting, if◌then◌else◌, in_runs, inl, inr, is_some, kept_there, list_any, local_of, map, none_found, not, or_standing, pending_as, pending_in, pending_of, position, positive, queue, queued_at, refl, runs, same_number, same_or_not, setting_of, slice_get, standing_among, standing_at, standing_at_t, standing_at_u, standing_by, standing_in, standing_of, subst, suc, sym, tm_no, true, txn_no, underway, waiting, why_of, why_pending, zero, ℕ, ◌-◌, ◌==◌, ◌∙◌, ◌∷◌, ◌≡◌, ◌⊎◌}
 use Rattle.sdd_run.proofs.LastHomes.{submitted_there}
-use Rattle.sdd_obligations.specs.All.{Attempt}
-use Rattle.sdd_obligations.specs.site_rules.declared.standing.Standing.TheVariants as standings
-use Rattle.sdd_obligations.specs.umod.State as um
+use Rattle.sdd_progress.specs.obligations.All.{Attempt}
+use Rattle.sdd_progress.specs.obligations.site_rules.declared.standing.Standing.TheVariants as standings
+use Rattle.sdd_progress.specs.obligations.umod.State as um
 use Rattle.sdd_report.specs.declared.pending.Why.TheVariants as reasons
 
 -- what a queue has stands at some place of it

@@ -1,6 +1,6 @@
 -- The marks of a lawful log submit transactions that the schedule names.
 use Rattle.sdd_run.proofs.All.{All, All-head, All-tail, AreNumbered, Bool, Catalogue, Event, Input, IsFrom1To, IsLawful, IsValidEvent, List, Log, Mark, TxnNo, [], ap, arith, eq-eqb, eqb-true, left_is, length, marked, one_if, refl, submits_in, subst, sym, ℕ, ◌++◌, ◌+◌, ◌==◌, ◌∷◌, ◌≡◌, ◌≤◌}
-use Rattle.sdd_obligations.specs.All.{Submit}
+use Rattle.sdd_progress.specs.obligations.All.{Submit}
 
 -- a mark that stands in a log counts
 marked_there : (n : TxnNo) (later before : Log) → 1 ≤ marked n.0 (later ++ Mark (Submit n) ∷ before)

@@ -1,7 +1,7 @@
 -- A module of the network is one of the catalogue.
 use Rattle.sdd_run.proofs.All.{Catalogue, D, Input, Log, NoneIsDown, Site, T, U, Workload, false, le-leb, nat_le, refl, subst, true, whole_in, ℕ, ◌&&◌, ◌≡◌, ◌≤◌}
-use Rattle.sdd_obligations.proofs.net.Directions.{within}
-use Rattle.sdd_obligations.specs.All.{IsModuleOf, is_down}
+use Rattle.sdd_progress.proofs.obligations.net.Directions.{within}
+use Rattle.sdd_progress.specs.obligations.All.{IsModuleOf, is_down}
 use Rattle.sdd_run.proofs.Whole.{same_dms, same_tms}
 use Rattle.sdd_script.specs.Valid.{IsModule}
 

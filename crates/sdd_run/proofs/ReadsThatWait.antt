@@ -1,6 +1,6 @@
 -- Where the READ of an active attempt waits, and for what: what is found by its class and timestamp is the attempt's own.
 use Rattle.sdd_run.proofs.All.{AllWithin, Bool, ClassNo, ClassView, Cond, D, Input, IsClass, IsFirstUnmet, IsLawful, IsModule, IsPermitted, IsStuck, List, Log, Msg, None, Option, Read, ReadWaits, Setting, Some, Ts, TxnNo, Use, View, Waiting, [], act_within, active, ap, arith, class_in_view, class_no, cond, conds_of, dm_no, eqb-true, false, find, has_passed_at, head, head_put, head_stuck, home, if◌then◌else◌, is_met, length, list_all, local_of, none_at_data, not, of_attempt, option_map, passed, pipe, read_of, refl, same_number, setting_of, site_due, subst, sym, time_at, true, txn_no, unmet, view_of, wait_at, wait_for, waiting_at, waits, ℕ, ◌==◌, ◌∙◌, ◌∷◌, ◌≡◌, ◌≤◌}
-use Rattle.sdd_obligations.specs.All.{Attempt}
+use Rattle.sdd_progress.specs.obligations.All.{Attempt}
 use Rattle.sdd_progress.specs.Quiet.{at_home, at_module}
 
 -- the first condition that isn't met

@@ -1,7 +1,7 @@
 -- What is listed as pending was submitted, isn't committed, and waits for what is said of it.
 use Rattle.sdd_run.proofs.All.{Contains, Contains-from_filter_map, D, FitsInput, Input, IsLawful, IsPermitted, IsTruePending, IsTrueReason, IsUnderway, List, Log, None, Option, Pending, Rec, Some, Standing, Submit, TellsPending, TxnNo, Waiting, WasFirst, Why, [], any_commit, ap, arith, commits, cons_option, dm_no, false, filter_map, history, if◌then◌else◌, list_any, not_both, option_map, pending_as, pending_in, pending_of, refl, same_number, site_due, slice_get, slice_get-get_or, status_at, submitted_at, subst, suc, sym, true, under_way, wait_at, waits_of, why_of, why_pending, zero, ℕ, ◌+◌, ◌<◌, ◌∙◌, ◌∷◌, ◌≡◌}
-use Rattle.sdd_obligations.specs.All.{Attempt}
-use Rattle.sdd_obligations.specs.site_rules.declared.standing.Standing.TheVariants as standings
+use Rattle.sdd_progress.specs.obligations.All.{Attempt}
+use Rattle.sdd_progress.specs.obligations.site_rules.declared.standing.Standing.TheVariants as standings
 use Rattle.sdd_report.specs.declared.pending.Why.TheVariants as reasons
 use Rattle.sdd_run.proofs.Lowest.{best_is_first, least_wait, none_waits}
 use Rattle.sdd_run.proofs.ReadsThatWait.{at_own_module, its_wait, waits_not}

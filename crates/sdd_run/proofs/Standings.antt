@@ -1,19 +1,19 @@
 -- Between calls, where nothing is due: where each transaction stands at its site, and what it waits for there. An attempt lacks
 -- the answer of a data module; and an undeclared transaction whose attempt hasn't begun lacks the HELD of a T.
 use Rattle.sdd_run.proofs.All.{AtTurn, Bool, Catalogue, D, Exchange, FitsInput, HasNear, Input, IsClass, IsInLine, IsLawful, IsModule, IsNearBy, IsNumberedSite, IsPermitted, IsSoundCatalogue, IsStanding, IsUnderway, Line, List, Log, None, Option, Queued, Site, Some, Standing, T, TmCounts, Turn, U, WaitsForHeld, [], active, active_near, all_served, all_true, and_left, and_right, answered_last, ap, apart, arith, attempt_at, attempt_due, awaited, base_of, both, chain_at, class_at, class_no, contains, counts, counts_at_u, counts_tm, dec_le, differ, dm_no, eq-eqb, eqb-true, false, find, firsts, goes_on, head_of, home, home_fair, home_turns, if_none, if◌then◌else◌, in_filtered, in_line, in_mapped, in_range, inl, inr, is_asking_to_hold, is_none, is_over, is_site, is_unanswered, lacks_answer_of, last_served, list_all, local_of, lowest, map, ne_eqb, near_one, next_at, no_act, no_active, no_sends, none_at, not, not_both, not_false, not_zero, numbers_to, option_map, or_none, or_standing, position, position-Some, positive, queue, queue_at_home, queued_at, refl, run_at, runs_place, same_or_not, send_due, setting_of, site_due, site_of, site_there, slice_get, slice_get-get_or, small_home, sound_whole, spoken, standing_among, standing_at, standing_at_t, standing_at_u, standing_by, standing_of, subst, suc, sym, t_site, tail_of, tm_no, tm_of, to_module, true, turn_at, underway, unsent, waiting, without_served, zero, zero_head, ℕ, ◌&&◌, ◌-◌, ◌<◌, ◌==◌, ◌∙◌, ◌∷◌, ◌≡◌, ◌≤◌, ◌⊎◌}
-use Rattle.sdd_obligations.specs.All.{Attempt, IsFrom1To}
+use Rattle.sdd_progress.specs.obligations.All.{Attempt, IsFrom1To}
 use Rattle.sdd_progress.specs.Quiet.{at_home}
-use Rattle.sdd_obligations.proofs.AtTurn.{IsAtTurn}
-use Rattle.sdd_obligations.proofs.invariants.logs.tm.Lists.{get_map as at_map}
-use Rattle.sdd_obligations.specs.site_rules.declared.standing.Standing.TheVariants as standings
-use Rattle.sdd_obligations.specs.tm.Due as tm
-use Rattle.sdd_obligations.specs.tm.State as tm_states
-use Rattle.sdd_obligations.specs.tm.Views as tm_views
-use Rattle.sdd_obligations.specs.umod.Due as um
-use Rattle.sdd_obligations.specs.umod.Standing as u_standing
-use Rattle.sdd_obligations.specs.umod.State as um_states
-use Rattle.sdd_obligations.specs.umod.Views as um_views
-use Rattle.sdd_obligations.proofs.logs.Steps.{none_in}
+use Rattle.sdd_progress.proofs.obligations.AtTurn.{IsAtTurn}
+use Rattle.sdd_progress.proofs.obligations.invariants.logs.tm.Lists.{get_map as at_map}
+use Rattle.sdd_progress.specs.obligations.site_rules.declared.standing.Standing.TheVariants as standings
+use Rattle.sdd_progress.specs.obligations.tm.Due as tm
+use Rattle.sdd_progress.specs.obligations.tm.State as tm_states
+use Rattle.sdd_progress.specs.obligations.tm.Views as tm_views
+use Rattle.sdd_progress.specs.obligations.umod.Due as um
+use Rattle.sdd_progress.specs.obligations.umod.Standing as u_standing
+use Rattle.sdd_progress.specs.obligations.umod.State as um_states
+use Rattle.sdd_progress.specs.obligations.umod.Views as um_views
+use Rattle.sdd_progress.proofs.obligations.logs.Steps.{none_in}
 use Rattle.sdd_progress.proofs.AttemptsRest.{attempts_rest}
 use Rattle.sdd_run.proofs.Lowest.{first_in, lowest_of}
 

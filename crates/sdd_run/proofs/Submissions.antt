@@ -1,6 +1,6 @@
 -- Each transaction is submitted at most once, also by a part of a schedule.
 use Rattle.sdd_run.proofs.All.{AreDistinct, AreSubmittedOnce, Event, List, [], ap, arith, cases_eq, eq-eqb, filter_map, get_or as slice_index_or, length, ne_eqb, one_if, refl, submits_in, submitted_by, subst, suc, sym, ℕ, ◌++◌, ◌+◌, ◌<◌, ◌==◌, ◌∙◌, ◌∷◌, ◌≡◌, ◌≤◌}
-use Rattle.sdd_obligations.specs.All.{Submit}
+use Rattle.sdd_progress.specs.obligations.All.{Submit}
 
 abbrev numbers : List Event → List ℕ
 numbers es = filter_map submitted_by es

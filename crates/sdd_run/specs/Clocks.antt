@@ -1,12 +1,12 @@
 -- How far the clocks of a run go.
 use Rattle.std.specs.Prelude.{◌<◌, ◌^◌, ◌≡◌, ◌++◌, ◌∷◌, [], refl}
-use Rattle.sdd_obligations.specs.attempt.Clocks.{clock}
-use Rattle.sdd_obligations.specs.base.Numbers.{tm_no}
-use Rattle.sdd_obligations.specs.base.declared.event.Event.TheVariants.{Tick}
-use Rattle.sdd_obligations.specs.base.declared.site.Site.{Site}
-use Rattle.sdd_obligations.specs.base.declared.site.Site.TheVariants.{T}
-use Rattle.sdd_obligations.specs.logs.Entries.{Input, Log, Mark}
-use Rattle.sdd_obligations.specs.logs.Locals.{local_of}
+use Rattle.sdd_progress.specs.obligations.attempt.Clocks.{clock}
+use Rattle.sdd_progress.specs.obligations.base.Numbers.{tm_no}
+use Rattle.sdd_progress.specs.obligations.base.declared.event.Event.TheVariants.{Tick}
+use Rattle.sdd_progress.specs.obligations.base.declared.site.Site.{Site}
+use Rattle.sdd_progress.specs.obligations.base.declared.site.Site.TheVariants.{T}
+use Rattle.sdd_progress.specs.obligations.logs.Entries.{Input, Log, Mark}
+use Rattle.sdd_progress.specs.obligations.logs.Locals.{local_of}
 
 -- at each moment of the log the clock of each site stands below 2^39 ticks
 abbrev pub HasLowClocks : Input → Log → Type 0

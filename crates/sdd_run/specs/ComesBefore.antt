@@ -1,11 +1,11 @@
 -- Where transactions stand in an order, and which of two was submitted first.
 use Rattle.std.specs.Prelude.{ℕ, ◌==◌, ◌<◌, ◌≡◌, List, [], ◌∷◌, ◌++◌, Contains, count_by, map, refl}
 use Rattle.std.proofs.Common.{lit<}
-use Rattle.sdd_obligations.specs.base.Numbers.{class_no, txn_no}
-use Rattle.sdd_obligations.specs.base.declared.number.TxnNo.{TxnNo}
-use Rattle.sdd_obligations.specs.history.Records.{History}
-use Rattle.sdd_obligations.specs.laws.Deeds.{IsSubmitted}
-use Rattle.sdd_obligations.specs.links.Attempts.{Committed}
+use Rattle.sdd_progress.specs.obligations.base.Numbers.{class_no, txn_no}
+use Rattle.sdd_progress.specs.obligations.base.declared.number.TxnNo.{TxnNo}
+use Rattle.sdd_progress.specs.obligations.history.Records.{History}
+use Rattle.sdd_progress.specs.obligations.laws.Deeds.{IsSubmitted}
+use Rattle.sdd_progress.specs.obligations.links.Attempts.{Committed}
 use Rattle.sdd_report.specs.declared.pending.Pending.{Pending}
 use Rattle.sdd_report.specs.declared.pending.Why.TheVariants.{Queued}
 

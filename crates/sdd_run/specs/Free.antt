@@ -1,13 +1,13 @@
 -- What an attempt of a class that lies on no simple cycle of the conflict graph never meets.
 use Rattle.std.specs.Prelude.{ℕ, ◌≡◌, List}
-use Rattle.sdd_obligations.specs.base.Numbers.{class_no, dm_no, time_at, txn_no}
-use Rattle.sdd_obligations.specs.base.declared.condition.Cond.{Cond}
-use Rattle.sdd_obligations.specs.base.declared.number.DmNo.{DmNo}
-use Rattle.sdd_obligations.specs.base.declared.number.TxnNo.{TxnNo}
-use Rattle.sdd_obligations.specs.history.Records.{History}
-use Rattle.sdd_obligations.specs.history.declared.record.Rec.TheVariants.{Answer, Reject, Wait}
-use Rattle.sdd_obligations.specs.links.Attempts.{Attempt}
-use Rattle.sdd_obligations.specs.links.Places.{IsRecordAt, event_at}
+use Rattle.sdd_progress.specs.obligations.base.Numbers.{class_no, dm_no, time_at, txn_no}
+use Rattle.sdd_progress.specs.obligations.base.declared.condition.Cond.{Cond}
+use Rattle.sdd_progress.specs.obligations.base.declared.number.DmNo.{DmNo}
+use Rattle.sdd_progress.specs.obligations.base.declared.number.TxnNo.{TxnNo}
+use Rattle.sdd_progress.specs.obligations.history.Records.{History}
+use Rattle.sdd_progress.specs.obligations.history.declared.record.Rec.TheVariants.{Answer, Reject, Wait}
+use Rattle.sdd_progress.specs.obligations.links.Attempts.{Attempt}
+use Rattle.sdd_progress.specs.obligations.links.Places.{IsRecordAt, event_at}
 
 -- no module lets the attempt wait, and none rejects it
 pub record IsUndisturbed (h : History) (a : Attempt) : Type 0 where

@@ -2,25 +2,25 @@
 -- them waits for. How the lines are made isn't said here.
 use Rattle.std.specs.Prelude.{ℕ, suc, ◌-◌, ◌==◌, ◌≡◌, ◌<◌, ◌≤◌, ◌++◌, ◌∷◌, Bool, true, false, not, ◌&&◌, if◌then◌else◌, List, Contains, filter, map, slice_get, Option, Some, None}
 use Rattle.std.specs.List.{AllByRecursion, list_any}
-use Rattle.sdd_obligations.specs.Turns.{Asks, Refused, Replied, Silent, Turn, turn_at}
-use Rattle.sdd_obligations.specs.attempt.Attempts.{Attempt, active}
-use Rattle.sdd_obligations.specs.attempt.Queues.{Queued, queue}
-use Rattle.sdd_obligations.specs.base.Numbers.{class_no, time_at, txn_no}
-use Rattle.sdd_obligations.specs.base.Words.{head_of, tail_of}
-use Rattle.sdd_obligations.specs.base.declared.condition.Cond.{Cond}
-use Rattle.sdd_obligations.specs.base.declared.site.Site.TheVariants.{D, T, U}
-use Rattle.sdd_obligations.specs.base.declared.usage.Use.{Use}
-use Rattle.sdd_obligations.specs.catalog.Catalogue.{numbers_to}
-use Rattle.sdd_obligations.specs.dm.Pipes.{pipe, waits}
-use Rattle.sdd_obligations.specs.history.Records.{History}
-use Rattle.sdd_obligations.specs.invariants.Steps.{home}
-use Rattle.sdd_obligations.specs.laws.Deeds.{IsSubmitted}
-use Rattle.sdd_obligations.specs.logs.Entries.{Input, Log, history}
-use Rattle.sdd_obligations.specs.logs.Locals.{local_of, setting_of}
-use Rattle.sdd_obligations.specs.pipe.Pipe.{head, passed}
-use Rattle.sdd_obligations.specs.links.Numbers.{IsClass, IsFrom1To, IsModule}
-use Rattle.sdd_obligations.specs.umod.Views.{TmCounts, counts, last_served}
-use Rattle.sdd_obligations.specs.wire.declared.msg.Msg.TheVariants.{Read}
+use Rattle.sdd_progress.specs.obligations.Turns.{Asks, Refused, Replied, Silent, Turn, turn_at}
+use Rattle.sdd_progress.specs.obligations.attempt.Attempts.{Attempt, active}
+use Rattle.sdd_progress.specs.obligations.attempt.Queues.{Queued, queue}
+use Rattle.sdd_progress.specs.obligations.base.Numbers.{class_no, time_at, txn_no}
+use Rattle.sdd_progress.specs.obligations.base.Words.{head_of, tail_of}
+use Rattle.sdd_progress.specs.obligations.base.declared.condition.Cond.{Cond}
+use Rattle.sdd_progress.specs.obligations.base.declared.site.Site.TheVariants.{D, T, U}
+use Rattle.sdd_progress.specs.obligations.base.declared.usage.Use.{Use}
+use Rattle.sdd_progress.specs.obligations.catalog.Catalogue.{numbers_to}
+use Rattle.sdd_progress.specs.obligations.dm.Pipes.{pipe, waits}
+use Rattle.sdd_progress.specs.obligations.history.Records.{History}
+use Rattle.sdd_progress.specs.obligations.invariants.Steps.{home}
+use Rattle.sdd_progress.specs.obligations.laws.Deeds.{IsSubmitted}
+use Rattle.sdd_progress.specs.obligations.logs.Entries.{Input, Log, history}
+use Rattle.sdd_progress.specs.obligations.logs.Locals.{local_of, setting_of}
+use Rattle.sdd_progress.specs.obligations.pipe.Pipe.{head, passed}
+use Rattle.sdd_progress.specs.obligations.links.Numbers.{IsClass, IsFrom1To, IsModule}
+use Rattle.sdd_progress.specs.obligations.umod.Views.{TmCounts, counts, last_served}
+use Rattle.sdd_progress.specs.obligations.wire.declared.msg.Msg.TheVariants.{Read}
 use Rattle.sdd_progress.specs.Committed.{WasCommitted}
 use Rattle.sdd_progress.specs.Quiet.{at_home, at_module}
 use Rattle.sdd_report.specs.declared.pending.Pending.{Pending}

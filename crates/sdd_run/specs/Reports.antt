@@ -1,6 +1,6 @@
 -- The report on a run, as its log gives it.
-use Rattle.sdd_obligations.specs.logs.Entries.{Input, Log, history}
-use Rattle.sdd_obligations.specs.serial_orders.SerialOrder.{serial_order}
+use Rattle.sdd_progress.specs.obligations.logs.Entries.{Input, Log, history}
+use Rattle.sdd_progress.specs.obligations.serial_orders.SerialOrder.{serial_order}
 use Rattle.sdd_report.specs.Report.{Report}
 use Rattle.sdd_schedule.specs.world.Copies.{tables_of}
 use Rattle.sdd_schedule.specs.world.Pending.{pending_of}

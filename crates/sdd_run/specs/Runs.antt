@@ -5,24 +5,24 @@ use Rattle.std.specs.Prelude.{ℕ, ◌≡◌, List, [], ◌∷◌, ◌++◌, Con
 use Rattle.std.specs.List.{All, AllZip}
 use Rattle.sdd_lists.specs.InForce.{eras_in, whole_in}
 use Rattle.sdd_make.specs.Summary.{summary_of, summary_text}
-use Rattle.sdd_obligations.specs.base.declared.number.TxnNo.{TxnNo}
-use Rattle.sdd_obligations.specs.base.declared.reply.Reply.{Reply}
-use Rattle.sdd_obligations.specs.catalog.Catalogue.{Catalogue, numbers_to}
-use Rattle.sdd_obligations.specs.graph.Edges.{IsClassOf}
-use Rattle.sdd_obligations.specs.history.Records.{History}
-use Rattle.sdd_obligations.specs.lang.Database.{Database}
-use Rattle.sdd_obligations.specs.laws.Copied.{AreAppliedAlike}
-use Rattle.sdd_obligations.specs.laws.Replay.{AreAllApplied, IsReplyOf, run}
-use Rattle.sdd_obligations.specs.logs.Entries.{Input, Log, history, marks}
-use Rattle.sdd_obligations.specs.logs.Lawful.{EndsByLimit, IsTheLog}
-use Rattle.sdd_obligations.specs.logs.Resting.{Rests}
-use Rattle.sdd_obligations.specs.protocol.Protocols.{IsTable}
-use Rattle.sdd_obligations.specs.protocol.declared.entry.Entry.{Entry}
-use Rattle.sdd_obligations.specs.links.Attempts.{Attempt, Committed, IsAttempt, IsCommitted}
-use Rattle.sdd_obligations.specs.links.Orderable.{IsOrderable}
-use Rattle.sdd_obligations.specs.serial_orders.Orders.{IsSerial}
-use Rattle.sdd_obligations.specs.serial_orders.SerialOrder.{serial_order}
-use Rattle.sdd_obligations.specs.site_module.SiteLog.{Era}
+use Rattle.sdd_progress.specs.obligations.base.declared.number.TxnNo.{TxnNo}
+use Rattle.sdd_progress.specs.obligations.base.declared.reply.Reply.{Reply}
+use Rattle.sdd_progress.specs.obligations.catalog.Catalogue.{Catalogue, numbers_to}
+use Rattle.sdd_progress.specs.obligations.graph.Edges.{IsClassOf}
+use Rattle.sdd_progress.specs.obligations.history.Records.{History}
+use Rattle.sdd_progress.specs.obligations.lang.Database.{Database}
+use Rattle.sdd_progress.specs.obligations.laws.Copied.{AreAppliedAlike}
+use Rattle.sdd_progress.specs.obligations.laws.Replay.{AreAllApplied, IsReplyOf, run}
+use Rattle.sdd_progress.specs.obligations.logs.Entries.{Input, Log, history, marks}
+use Rattle.sdd_progress.specs.obligations.logs.Lawful.{EndsByLimit, IsTheLog}
+use Rattle.sdd_progress.specs.obligations.logs.Resting.{Rests}
+use Rattle.sdd_progress.specs.obligations.protocol.Protocols.{IsTable}
+use Rattle.sdd_progress.specs.obligations.protocol.declared.entry.Entry.{Entry}
+use Rattle.sdd_progress.specs.obligations.links.Attempts.{Attempt, Committed, IsAttempt, IsCommitted}
+use Rattle.sdd_progress.specs.obligations.links.Orderable.{IsOrderable}
+use Rattle.sdd_progress.specs.obligations.serial_orders.Orders.{IsSerial}
+use Rattle.sdd_progress.specs.obligations.serial_orders.SerialOrder.{serial_order}
+use Rattle.sdd_progress.specs.obligations.site_module.SiteLog.{Era}
 use Rattle.sdd_progress.specs.Committed.{AllCommitted}
 use Rattle.sdd_progress.specs.Few.{AreFewRejected}
 use Rattle.sdd_progress.specs.Free.{IsFree}

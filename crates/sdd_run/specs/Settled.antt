@@ -2,18 +2,18 @@
 use Rattle.std.specs.Prelude.{ℕ, ◌+◌, ◌==◌, ◌≡◌, false, true, List, [], ◌∷◌, ◌++◌, refl}
 use Rattle.std.proofs.Common.{ap}
 use Rattle.std.proofs.lemmas.Bool.{false≢true}
-use Rattle.sdd_obligations.specs.base.Numbers.{class_no, txn_no}
-use Rattle.sdd_obligations.specs.base.declared.event.Event.{Event}
-use Rattle.sdd_obligations.specs.base.declared.event.Event.TheVariants.{Redeclare, Settle, Submit}
-use Rattle.sdd_obligations.specs.base.declared.number.TxnNo.{TxnNo}
-use Rattle.sdd_obligations.specs.base.declared.site.Site.{Site}
-use Rattle.sdd_obligations.specs.catalog.Catalogue.{Catalogue}
-use Rattle.sdd_obligations.specs.history.declared.record.Rec.TheVariants.{Submit as Submission}
-use Rattle.sdd_obligations.specs.laws.Deeds.{IsSubmitted}
-use Rattle.sdd_obligations.specs.logs.Entries.{Input, Log}
-use Rattle.sdd_obligations.specs.logs.Traffic.{all_links, calls_of, is_down}
-use Rattle.sdd_obligations.specs.net.Links.{quiet}
-use Rattle.sdd_obligations.specs.links.Examples.{crossing}
+use Rattle.sdd_progress.specs.obligations.base.Numbers.{class_no, txn_no}
+use Rattle.sdd_progress.specs.obligations.base.declared.event.Event.{Event}
+use Rattle.sdd_progress.specs.obligations.base.declared.event.Event.TheVariants.{Redeclare, Settle, Submit}
+use Rattle.sdd_progress.specs.obligations.base.declared.number.TxnNo.{TxnNo}
+use Rattle.sdd_progress.specs.obligations.base.declared.site.Site.{Site}
+use Rattle.sdd_progress.specs.obligations.catalog.Catalogue.{Catalogue}
+use Rattle.sdd_progress.specs.obligations.history.declared.record.Rec.TheVariants.{Submit as Submission}
+use Rattle.sdd_progress.specs.obligations.laws.Deeds.{IsSubmitted}
+use Rattle.sdd_progress.specs.obligations.logs.Entries.{Input, Log}
+use Rattle.sdd_progress.specs.obligations.logs.Traffic.{all_links, calls_of, is_down}
+use Rattle.sdd_progress.specs.obligations.net.Links.{quiet}
+use Rattle.sdd_progress.specs.obligations.links.Examples.{crossing}
 use Rattle.sdd_progress.specs.Committed.{AllCommitted}
 use Rattle.sdd_report.specs.Report.{Report}
 use Rattle.sdd_report.specs.declared.pending.Pending.{Pending}

@@ -1,7 +1,7 @@
 -- How a site may have a transaction, where nothing is due.
 use Rattle.std.specs.Prelude.{◌≡◌, ◌≤◌, ◌∷◌, [], Some, refl}
-use Rattle.sdd_obligations.specs.All.{Catalogue, D, IsClass, IsFrom1To, IsModule, Log, Site, Standing, Submit, T, U, class_no, dm_no, extended, local_of, setting_of, time_at, tm_no, txn_no}
-use Rattle.sdd_obligations.specs.site_rules.declared.standing.Standing.TheVariants as standings
+use Rattle.sdd_progress.specs.obligations.All.{Catalogue, D, IsClass, IsFrom1To, IsModule, Log, Site, Standing, Submit, T, U, class_no, dm_no, extended, local_of, setting_of, time_at, tm_no, txn_no}
+use Rattle.sdd_progress.specs.obligations.site_rules.declared.standing.Standing.TheVariants as standings
 use Rattle.sdd_progress.specs.Examples.{crossing_with}
 use Rattle.sdd_schedule.specs.world.sites.Standings.{standing_of}
 

@@ -2,10 +2,10 @@
 use Rattle.std.proofs.Common.{ap, arith, sym, ◌∙◌}
 use Rattle.std.proofs.lemmas.Bool.{false≢true}
 use Rattle.std.specs.Prelude.{ℕ, ◌<◌, ◌==◌, ◌∷◌, ◌≡◌, ◌≤◌, List, None, Option, Some, [], negsuc, pos, refl, suc, zero}
-use Rattle.sdd_obligations.specs.All.{Attempt, Catalogue, Class, Cond, D, Deliver, Diagonal, Event, Fragment, Horizontal, Input, Int, Log, Msg, P2, Put, Query, Queued, Read, Submit, T, Tick, Txn, U, Update, Vertical, begins, class_no, dm_no, extended, frag_no, passed, pipe, rel_no, time_at, tm_no, txn_no}
-use Rattle.sdd_obligations.specs.catalog.declared.parts.Kind.TheVariants as kinds
-use Rattle.sdd_obligations.specs.protocol.declared.protocol.Protocol.TheVariants.{P1}
-use Rattle.sdd_obligations.specs.lang.declared.assign.Assign.TheVariants.{Add}
+use Rattle.sdd_progress.specs.obligations.All.{Attempt, Catalogue, Class, Cond, D, Deliver, Diagonal, Event, Fragment, Horizontal, Input, Int, Log, Msg, P2, Put, Query, Queued, Read, Submit, T, Tick, Txn, U, Update, Vertical, begins, class_no, dm_no, extended, frag_no, passed, pipe, rel_no, time_at, tm_no, txn_no}
+use Rattle.sdd_progress.specs.obligations.catalog.declared.parts.Kind.TheVariants as kinds
+use Rattle.sdd_progress.specs.obligations.protocol.declared.protocol.Protocol.TheVariants.{P1}
+use Rattle.sdd_progress.specs.obligations.lang.declared.assign.Assign.TheVariants.{Add}
 use Rattle.sdd_progress.specs.Quiet.{at_module}
 use Rattle.sdd_report.specs.declared.pending.Waiting.{Waiting}
 use Rattle.sdd_report.specs.declared.pending.Why.TheVariants.{Queued as InQueue, Underway, Waits}

@@ -1,9 +1,9 @@
 -- Worlds of a run.
 use Rattle.std.specs.Prelude.{List}
-use Rattle.sdd_obligations.specs.catalog.Catalogue.{Catalogue}
-use Rattle.sdd_obligations.specs.logs.Entries.{Log}
-use Rattle.sdd_obligations.specs.logs.Lawful.{IsTheLog}
-use Rattle.sdd_obligations.specs.protocol.declared.entry.Entry.{Entry}
+use Rattle.sdd_progress.specs.obligations.catalog.Catalogue.{Catalogue}
+use Rattle.sdd_progress.specs.obligations.logs.Entries.{Log}
+use Rattle.sdd_progress.specs.obligations.logs.Lawful.{IsTheLog}
+use Rattle.sdd_progress.specs.obligations.protocol.declared.entry.Entry.{Entry}
 use Rattle.sdd_script.specs.declared.workload.Workload.{Workload}
 use Rattle.sdd_schedule.specs.world.Represents.{Represents}
 use Rattle.sdd_schedule.specs.world.declared.world.World.{World}

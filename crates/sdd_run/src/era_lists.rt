@@ -1,12 +1,12 @@
 //! The class lists of a workload, as a world puts them in force.
 ghost use Rattle.std.specs.Prelude.{◌≡◌, ◌<◌, Some, length, map, slice_get, IfOk};
 ghost use Rattle.std.specs.List.{AllZip};
-ghost use Rattle.sdd_obligations.specs.base.Words.{tail_of};
-ghost use Rattle.sdd_obligations.specs.All.{IsTable};
+ghost use Rattle.sdd_progress.specs.obligations.base.Words.{tail_of};
+ghost use Rattle.sdd_progress.specs.obligations.All.{IsTable};
 ghost use Rattle.sdd_run.specs.Lent.{era_of_list};
 ghost use Rattle.sdd_run.specs.Runs.{eras_with_tables};
 
-use sdd_obligations::{Catalogue, NoMemory, Table, table};
+use sdd_progress::{Catalogue, NoMemory, Table, table};
 use sdd_schedule::ClassList;
 use std::alloc::Global;
 

@@ -1,12 +1,12 @@
 //! What holds of every run of a workload, reported or not.
 ghost use Rattle.std.specs.Prelude.{ℕ, ◌≡◌, ◌≤◌, ◌++◌, ◌∷◌, ◌⊎◌, List, None};
-ghost use Rattle.sdd_obligations.specs.All.{AreSubmittedOnce, Catalogue, ClassNo, Cond, D, DmNo, FitsInput, Hand, Input, IsLawful, IsPermitted, IsSoundCatalogue, IsTheLog, Log, Read, Site, Ts, TxnNo, Use, history, local_of, marks, setting_of, site_due};
+ghost use Rattle.sdd_progress.specs.obligations.All.{AreSubmittedOnce, Catalogue, ClassNo, Cond, D, DmNo, FitsInput, Hand, Input, IsLawful, IsPermitted, IsSoundCatalogue, IsTheLog, Log, Read, Site, Ts, TxnNo, Use, history, local_of, marks, setting_of, site_due};
 ghost use Rattle.sdd_schedule.specs.world.sites.Standings.{standing_of};
 ghost use Rattle.sdd_run.specs.Standings.{IsStanding};
 ghost use Rattle.sdd_progress.specs.Free.{IsFreeClass};
 ghost use Rattle.sdd_run.specs.Free.{IsAnsweredWithin};
 ghost use Rattle.sdd_script.specs.declared.workload.Workload.{Workload};
-ghost use Rattle.sdd_obligations.specs.protocol.declared.entry.Entry.{Entry};
+ghost use Rattle.sdd_progress.specs.obligations.protocol.declared.entry.Entry.{Entry};
 ghost use Rattle.sdd_script.specs.All.{IsValid};
 ghost use Rattle.sdd_run.specs.Clocks.{HasLowClocks};
 ghost use Rattle.sdd_run.specs.Runs.{AreTables, EndsAtLimit, IsReportOn, IsSummaryOn, input_of};

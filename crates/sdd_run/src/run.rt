@@ -2,7 +2,7 @@
 ghost use Rattle.std.specs.Prelude.{◌≡◌, IfOk, IsErrOf};
 ghost use Rattle.sdd_lists.specs.InForce.{eras_in, whole_in};
 ghost use Rattle.sdd_make.specs.Summary.{summary_of};
-ghost use Rattle.sdd_obligations.specs.All.{Input, IsOrderable, Log, history, marks};
+ghost use Rattle.sdd_progress.specs.obligations.All.{Input, IsOrderable, Log, history, marks};
 ghost use Rattle.sdd_report.specs.Report.{report_text as text_of};
 ghost use Rattle.sdd_script.specs.All.{IsValid};
 ghost use Rattle.sdd_run.specs.Reports.{report_of};
@@ -15,7 +15,7 @@ use crate::running::run_to_end;
 use crate::telling::report_on;
 use sdd_lists::{Lists, lists_of};
 use sdd_make::{Summary, summary_of, summary_text};
-use sdd_obligations::{Catalogue, NoMemory, Pages, Table};
+use sdd_progress::{Catalogue, NoMemory, Pages, Table};
 use sdd_schedule::{World, WorldEnd};
 use sdd_script::Workload;
 use std::alloc::Global;

@@ -7,7 +7,7 @@ ghost use Rattle.sdd_run.specs.Worlds.{IsRunOf};
 
 use crate::era_lists::{first_table, further};
 use sdd_lists::Lists;
-use sdd_obligations::{Catalogue, Table};
+use sdd_progress::{Catalogue, Table};
 use sdd_schedule::{Nobody, World, WorldEnd, carry_out, data_modules};
 use sdd_script::Workload;
 use std::alloc::Global;

@@ -1,12 +1,12 @@
 //! The report on a world.
 ghost use Rattle.std.specs.Prelude.{◌≡◌, IfOk};
-ghost use Rattle.sdd_obligations.specs.All.{Input, IsOrderable, Log, history};
+ghost use Rattle.sdd_progress.specs.obligations.All.{Input, IsOrderable, Log, history};
 ghost use Rattle.sdd_report.specs.Report.{report_text as text_of};
 ghost use Rattle.sdd_run.specs.Reports.{report_of};
 ghost use Rattle.sdd_schedule.specs.world.LastHomes.{AreAtLastHomes};
 ghost use Rattle.sdd_schedule.specs.world.Represents.{Represents};
 
-use sdd_obligations::{NoMemory, Pages, serial_order};
+use sdd_progress::{NoMemory, Pages, serial_order};
 use sdd_report::{Report, report_pages};
 use sdd_schedule::World;
 use std::alloc::Global;

@@ -3,10 +3,10 @@ use Rattle.std.proofs.Common.{ap, arith, eqb-true, lit<, subst, sym, ◌∙◌}
 use Rattle.std.proofs.lemmas.Bool.{false≢true}
 use Rattle.std.specs.Prelude.{ℕ, ◌==◌, ◌&&◌, ◌≡◌, Bool, true, if◌then◌else◌, refl}
 use Rattle.std.specs.List.{list_any}
-use Rattle.sdd_obligations.specs.All.{AppliedBefore, Apply, Change, Commit, Committed, IsCommitted, IsSubmitted, Rec, class_no, dm_no, time_at, txn_no}
-use Rattle.sdd_obligations.specs.history.declared.record.Rec.TheVariants.{Submit}
-use Rattle.sdd_obligations.specs.laws.Copied.{AreAppliedAlike}
-use Rattle.sdd_obligations.specs.links.Attempts.{changes}
+use Rattle.sdd_run.specs.progress.obligations.All.{AppliedBefore, Apply, Change, Commit, Committed, IsCommitted, IsSubmitted, Rec, class_no, dm_no, time_at, txn_no}
+use Rattle.sdd_run.specs.progress.obligations.history.declared.record.Rec.TheVariants.{Submit}
+use Rattle.sdd_run.specs.progress.obligations.laws.Copied.{AreAppliedAlike}
+use Rattle.sdd_run.specs.progress.obligations.links.Attempts.{changes}
 use Rattle.sdd_run.specs.ComesBefore.{IsSubmittedBefore}
 use Rattle.sdd_run_examples.proofs.AtPlaces.{passes_place}
 use Rattle.sdd_run_examples.specs.Histories.{applied_at_two, first_put, later_put}

@@ -3,7 +3,7 @@ use Rattle.std.proofs.Common.{ap, arith, sym, ◌∙◌}
 use Rattle.std.proofs.lemmas.Bool.{and_parts}
 use Rattle.std.specs.Prelude.{ℕ, zero, suc, ◌+◌, ◌≡◌, Bool, true, [], ◌∷◌, Some, None}
 use Rattle.std.specs.List.{list_all}
-use Rattle.sdd_obligations.specs.All.{History, IsRecordAt, Rec, event_at, placed}
+use Rattle.sdd_run.specs.progress.obligations.All.{History, IsRecordAt, Rec, event_at, placed}
 
 pub passes_at : (test : ℕ → Rec → Bool) (h : History) (k : ℕ) (r : Rec) → list_all (λ e. test e.0 e.1) h ≡ true → IsRecordAt h k r
     → test (event_at h k) r ≡ true

@@ -2,8 +2,8 @@
 use Rattle.std.proofs.Common.{ap, sym, ◌∙◌}
 use Rattle.std.proofs.lemmas.Bool.{false≢true}
 use Rattle.std.specs.Prelude.{ℕ, ◌==◌, ◌&&◌, ◌≡◌, Bool, true, false, refl}
-use Rattle.sdd_obligations.specs.All.{Answer, Rec, Reject, Wait, class_no, dm_no, time_at, txn_no}
-use Rattle.sdd_obligations.specs.links.Examples.{reads_before, starts_again, waits_for_other}
+use Rattle.sdd_run.specs.progress.obligations.All.{Answer, Rec, Reject, Wait, class_no, dm_no, time_at, txn_no}
+use Rattle.sdd_run.specs.progress.obligations.links.Examples.{reads_before, starts_again, waits_for_other}
 use Rattle.sdd_run.specs.Free.{IsAnsweredWithin, IsUndisturbed}
 use Rattle.sdd_run_examples.proofs.AtPlaces.{passes_at}
 use Rattle.sdd_run_examples.specs.Histories.{asked, rejected, waited}

@@ -7,8 +7,8 @@ use Rattle.std.specs.Prelude.{ℕ, zero, suc, ◌==◌, ◌≡◌, ◌≢◌, tr
 use Rattle.sdd_blocks.specs.Blocks.{OnACycle}
 use Rattle.sdd_blocks.specs.Graph.{IsSimpleCycle, Step}
 use Rattle.sdd_run_examples.proofs.Crossing.{crosses_alone}
-use Rattle.sdd_obligations.specs.All.{Catalogue, Vertical, class_no, conflict_graph}
-use Rattle.sdd_obligations.specs.graph.Graph.{ends}
+use Rattle.sdd_run.specs.progress.obligations.All.{Catalogue, Vertical, class_no, conflict_graph}
+use Rattle.sdd_run.specs.progress.obligations.graph.Graph.{ends}
 use Rattle.sdd_run.specs.progress.Free.{IsFree, ends_at}
 use Rattle.sdd_run.specs.Runs.{IsFreeInEach}
 use Rattle.sdd_run_examples.specs.Catalogues.{crosses_later, later_classes, three_classes}

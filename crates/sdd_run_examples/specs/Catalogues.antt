@@ -1,10 +1,10 @@
 -- Three classes over three fragments at one module: the first two read what the other one writes, the third what it writes
 -- itself. And a workload with a further list, of two classes of which each reads what the other writes.
 use Rattle.std.specs.Prelude.{ℕ, pos, negsuc, [], ◌∷◌, ◌≡◌, map, refl}
-use Rattle.sdd_obligations.specs.All.{Catalogue, Class, conflict_graph, dm_no, frag_no, rel_no, tm_no}
-use Rattle.sdd_obligations.specs.catalog.declared.parts.ClassPart.{ClassPart}
-use Rattle.sdd_obligations.specs.catalog.declared.parts.Kind.TheVariants as kinds
-use Rattle.sdd_obligations.specs.graph.Graph.{ends}
+use Rattle.sdd_run.specs.progress.obligations.All.{Catalogue, Class, conflict_graph, dm_no, frag_no, rel_no, tm_no}
+use Rattle.sdd_run.specs.progress.obligations.catalog.declared.parts.ClassPart.{ClassPart}
+use Rattle.sdd_run.specs.progress.obligations.catalog.declared.parts.Kind.TheVariants as kinds
+use Rattle.sdd_run.specs.progress.obligations.graph.Graph.{ends}
 use Rattle.sdd_run.specs.class_lists.InForce.{eras_in}
 use Rattle.sdd_run.specs.script.declared.workload.Workload.{Workload}
 

@@ -1,10 +1,10 @@
 -- Histories, and attempts and committed transactions in them.
 use Rattle.std.specs.Prelude.{ℕ, [], ◌∷◌, List, Some}
-use Rattle.sdd_obligations.specs.All.{Change, Committed, History, Use, class_no, dm_no, time_at, txn_no}
-use Rattle.sdd_obligations.specs.base.declared.reply.Reply.TheVariants.{Rows}
-use Rattle.sdd_obligations.specs.history.declared.record.Rec.TheVariants.{Apply, Commit, Start, Submit}
-use Rattle.sdd_obligations.specs.links.Attempts.{Attempt}
-use Rattle.sdd_obligations.specs.links.Examples.{high_keys, low_keys, put}
+use Rattle.sdd_run.specs.progress.obligations.All.{Change, Committed, History, Use, class_no, dm_no, time_at, txn_no}
+use Rattle.sdd_run.specs.progress.obligations.base.declared.reply.Reply.TheVariants.{Rows}
+use Rattle.sdd_run.specs.progress.obligations.history.declared.record.Rec.TheVariants.{Apply, Commit, Start, Submit}
+use Rattle.sdd_run.specs.progress.obligations.links.Attempts.{Attempt}
+use Rattle.sdd_run.specs.progress.obligations.links.Examples.{high_keys, low_keys, put}
 
 abbrev attempt : ℕ → ℕ → ℕ → ℕ → ℕ → List Use → ℕ → Attempt
 attempt txn number class ts p2 uses place =

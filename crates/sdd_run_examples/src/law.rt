@@ -1,7 +1,7 @@
 ghost use Rattle.std.specs.Prelude.{◌≡◌};
-ghost use Rattle.sdd_obligations.specs.All.{dm_no, txn_no};
-ghost use Rattle.sdd_obligations.specs.laws.Copied.{AreAppliedAlike};
-ghost use Rattle.sdd_obligations.specs.links.Examples.{reads_before, starts_again, waits_for_other};
+ghost use Rattle.sdd_run.specs.progress.obligations.All.{dm_no, txn_no};
+ghost use Rattle.sdd_run.specs.progress.obligations.laws.Copied.{AreAppliedAlike};
+ghost use Rattle.sdd_run.specs.progress.obligations.links.Examples.{reads_before, starts_again, waits_for_other};
 ghost use Rattle.sdd_run.specs.progress.Free.{IsFree};
 ghost use Rattle.sdd_run.specs.ComesBefore.{IsSubmittedBefore};
 ghost use Rattle.sdd_run.specs.Free.{IsAnsweredWithin, IsUndisturbed};

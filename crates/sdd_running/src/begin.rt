@@ -41,7 +41,7 @@ pub fn start_attempt(
     let own = clock.start();
     let beginning = Beginning::of(alloc, catalogue, table, class, queued, own, p2)?;
     let modules = beginning.send_reads(draft)?;
-    let exchange = Exchange::begin(alloc, &queued.text, modules)?;
     draft.record(beginning.into_record())?;
+    let exchange = Exchange::begin(alloc, &queued.text, modules)?;
     Ok(Running { ts: own, exchange })
 }

@@ -202,11 +202,28 @@ fn send_reads_to(
 {
     let mut modules = Modules::with_room(beginning.alloc, dms.len())?;
     for dm in dms {
-        let read = beginning.read_to(*dm)?;
-        modules.add(beginning.alloc, &read)?;
-        draft.send(read.0, read.1)?;
+        send_read(beginning, *dm, &mut modules, draft)?;
     }
     Ok(modules)
+}
+
+/// Sends the READ to a module, and adds the module.
+fn send_read(
+    beginning: &Beginning,
+    dm: DmNo,
+    modules: &mut Modules,
+    draft: &mut Draft,
+) -> Result<(), NoMemory>
+    ensures draft { OnOk result (
+        draft.new
+        ≡ record draft.old { out = draft.old.out ++ reads_to beginning.now (dm.0 ∷ []) }) }
+    ensures modules { OnOk result (
+        modules.new
+        ≡ modules.old ++ filter_map module_read (reads_to beginning.now (dm.0 ∷ []))) }
+{
+    let read = beginning.read_to(dm)?;
+    modules.add(beginning.alloc, &read)?;
+    draft.send(read.0, read.1)
 }
 
 /// All data modules.

@@ -4,7 +4,7 @@ ghost use Rattle.sdd_lang.specs.All.{GivesReading};
 ghost use Rattle.sdd_script.specs.Rules.{rule_in};
 ghost use Rattle.sdd_script.specs.ReadResults.{Tells};
 ghost use Rattle.sdd_script.specs.Valid.{Accepts};
-ghost use Rattle.sdd_script.specs.Walk.{one_line, tail_rules, walk_bytes, nothing_read, workload};
+ghost use Rattle.sdd_script.specs.Walk.{one_line, tail_rules, walk_bytes, nothing_read, workload_of_state, workload};
 
 use crate::fault::{LineError, WorkError, WorkFault, WorkRule, at_line, must, refuse};
 use crate::grown::Grown;
@@ -17,6 +17,7 @@ use crate::workload::Workload;
 use sdd_lang::{Catalogue, MAX_WORKLOAD_BYTES};
 use sdd_words::{next_line, text_of};
 use std::alloc::Global;
+use std::mem;
 
 fn read_one(
     alloc: Global,
@@ -83,6 +84,32 @@ fn read_lines(
     at_line(line, check_tail(state, rest))
 }
 
+/// Takes the workload that the lines have said out of the state. Takes no memory.
+fn take_workload(alloc: Global, state: &mut State) -> Workload
+    ensures { workload_of_state (Ok state.old) ≡ Ok result }
+{
+    Workload {
+        rows: mem::replace(&mut state.rows, Grown::new(alloc)).into_listed(),
+        txns: mem::replace(&mut state.txns, Grown::new(alloc)).into_listed(),
+        lists: mem::replace(&mut state.lists, Grown::new(alloc)).into_listed(),
+        events: mem::replace(&mut state.events, Grown::new(alloc)).into_listed(),
+    }
+}
+
+/// The workload of all lines, read from this state on.
+fn read_all(
+    alloc: Global,
+    catalogue: &Catalogue,
+    state: &mut State,
+    bytes: &[u8],
+) -> Result<Workload, WorkError>
+    requires { length bytes.now ≤ 2 ^ 26 }
+    ensures { Tells result (workload_of_state (walk_bytes catalogue.now 1 state.old bytes.now)) }
+{
+    read_lines(alloc, catalogue, state, bytes)?;
+    Ok(take_workload(alloc, state))
+}
+
 /// The workload that a file gives, or its first fault: that of the first line at fault, and on it the
 /// first rule that is broken.
 ///
@@ -111,11 +138,5 @@ fn read_bytes(alloc: Global, bytes: &[u8], catalogue: &Catalogue) -> Result<Work
         }));
     }
     let mut state = nothing_read(alloc, catalogue);
-    read_lines(alloc, catalogue, &mut state, bytes)?;
-    Ok(Workload {
-        rows: state.rows.into_listed(),
-        txns: state.txns.into_listed(),
-        lists: state.lists.into_listed(),
-        events: state.events.into_listed(),
-    })
+    read_all(alloc, catalogue, &mut state, bytes)
 }

@@ -357,6 +357,48 @@ fn first_longer<'a>(
     Ok(None)
 }
 
+/// The first counterexample: of one inner transaction, or else of more.
+fn first_near<'a>(
+    alloc: Global,
+    catalogue: &Catalogue,
+    base: &Plain,
+    txns: &'a [Txn],
+    near: &mut Near,
+    all: &[Member],
+) -> Result<Option<ShortRun<'a>>, NoMemory>
+    requires database { IsDatabase catalogue.now base.now.value }
+    requires fit { All (FitsTxn catalogue.now) txns.now }
+    requires changes { near.old.changes ≡ all.now }
+    ensures found { IfOk result (λ found. IfSome found (λ s.
+        IsShortCounterexample catalogue.now txns.now base.now.value s.outer.now (lent_txns s.inner.items))) }
+    ensures none { IfOk result (λ found. IfNone found (
+        All (IsExplainedPair catalogue.now base.now.value txns.now) (tried_pairs all.now))) }
+{
+    match first_of_pairs(alloc, catalogue, base, txns, &near.changes, all)? {
+        Some(short) => Ok(Some(short)),
+        None => first_longer(alloc, catalogue, base, txns, near),
+    }
+}
+
+/// The first counterexample over these rows.
+fn first_over<'a>(
+    alloc: Global,
+    catalogue: &Catalogue,
+    base: &Plain,
+    txns: &'a [Txn],
+    all: &[Member],
+) -> Result<Option<ShortRun<'a>>, NoMemory>
+    requires database { IsDatabase catalogue.now base.now.value }
+    requires fit { All (FitsTxn catalogue.now) txns.now }
+    ensures found { IfOk result (λ found. IfSome found (λ s.
+        IsShortCounterexample catalogue.now txns.now base.now.value s.outer.now (lent_txns s.inner.items))) }
+    ensures none { IfOk result (λ found. IfNone found (
+        All (IsExplainedPair catalogue.now base.now.value txns.now) (tried_pairs all.now))) }
+{
+    let mut near = Near::new(alloc, all)?;
+    first_near(alloc, catalogue, base, txns, &mut near, all)
+}
+
 /// A short run that is like no serial one: the first that is found among those where a pivot may miss
 /// the changes of the first inner one and the last one may miss its changes; of those with one inner
 /// transaction 256 are tried, then as many with two and with three.
@@ -383,12 +425,5 @@ pub fn find_counterexample<'a>(
 {
     law_rows_make_database(catalogue, rows);
     let base = Plain::new(alloc, catalogue, rows)?;
-    let mut near = Near::new(alloc, all)?;
-    match first_of_pairs(alloc, catalogue, &base, txns, &near.changes, all)? {
-        Some(short) => Ok(Some(short)),
-        None => match first_longer(alloc, catalogue, &base, txns, &mut near)? {
-            Some(short) => Ok(Some(short)),
-            None => Ok(None),
-        },
-    }
+    first_over(alloc, catalogue, &base, txns, all)
 }

@@ -87,6 +87,20 @@ there_at represents [] k x setting log e h = absurd h
 there_at represents (y ∷ xs) zero x setting log e h = ap Some (sym e)
 there_at represents (y ∷ xs) (suc k) x setting log e h = there_at represents xs k x setting log e h
 
+pub taken_in : {V : Type 0} (is_live : V → Bool) (represents : Representation V) (next : Table) (xs : List V) (k : ℕ) (v v2 : V)
+    (fits : Fitting) (from : Site) (msg : Msg) (res : Result Outcome NoMemory) → v ≡ slice_index_or xs k v
+    → IfOk res (TakesMsg represents next fits v v2 from msg) → IfOk res (λ o. IsTrue (is_live v2))
+    → IfOk res (TakesMsg (At (Lives is_live represents)) next fits (slice_get xs k) (slice_get (slice_set xs k v2) k) from msg)
+taken_in is_live represents next xs k v v2 fits from msg (Ok o) e law live = λ setting bases log s f.
+    let there = there_at (Lives is_live represents) xs k v setting log e s in
+    let here : Lives is_live represents v setting log = subst (λ x. At (Lives is_live represents) x setting log) there s in
+    does_by (next setting bases) (next setting bases) (λ l. refl) (Handed from msg ∷ log) o.recs o.out (represents v2 setting)
+    (At (Lives is_live represents) (slice_get (slice_set xs k v2) k) setting)
+    (λ more x. let l : Lives is_live represents v2 setting more = record { live = live; represents_log = x } in
+    subst (λ y. At (Lives is_live represents) y setting more) (sym (get-set_same xs k v v2 there)) l)
+    (law setting bases log here.represents_log f)
+taken_in is_live represents next xs k v v2 fits from msg (Err e) is law live = tt
+
 pub submitted_in : {V : Type 0} (is_live : V → Bool) (represents : Representation V) (next : Table) (xs : List V) (k : ℕ) (v v2 : V)
     (fits : FittingSubmit) (n : TxnNo) (txn : Txn) (res : Result Outcome NoMemory) → v ≡ slice_index_or xs k v
     → IfOk res (TakesTxn represents next fits v v2 n txn) → IfOk res (λ o. IsTrue (is_live v2))

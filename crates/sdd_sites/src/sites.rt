@@ -135,8 +135,8 @@ impl<'a> Sites<'a> {
         ensures { IfOk result (λ sites. (g : Input) (txns : List Transaction)
             → IsBegun g whole.now catalogue.now table.now txns modules.items → AllRepresent sites g []) }
     {
-        let u = UModule::new(alloc, whole)?;
         let tms = txn_modules(alloc, whole, catalogue, table)?;
+        let u = UModule::new(alloc, whole)?;
         Ok(Sites {
             u,
             tms,

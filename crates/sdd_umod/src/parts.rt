@@ -55,13 +55,14 @@ impl<'a> Parts<'a> {
     pub(crate) fn new(alloc: Global, catalogue: &'a Catalogue) -> Result<Parts<'a>, NoMemory>
         ensures { IfOk result (λ parts. parts ≡ first_state catalogue.now) }
     {
+        let counts = first_counts(alloc, catalogue)?;
         Ok(Parts {
             alloc,
             catalogue,
             line: Line::new(alloc, catalogue, ClassNo(0)),
             clock: Clock::new(0),
             serving: Serving::new(),
-            counts: first_counts(alloc, catalogue)?,
+            counts,
         })
     }
 

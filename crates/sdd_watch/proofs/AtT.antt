@@ -1,9 +1,9 @@
 -- What a transaction module keeps tells how it stands.
 use Rattle.sdd_watch.proofs.All.{Active, All, All-from_recursion, AllByRecursion, Bool, ClassState, IsLineInOrder, IsLineOf, Kept, List, LivesT, Question, Queues, Setting, Some, TmNo, [], active_of, actives, ap, arith, asked, asks, bound_of, class_of, clock, false, filter, filter_map, flat_map, holds, map, map-map, nat_lt, question_by, questions_in, questions_to, refl, reported_tm, represents_queues, runs, slice_get, subst, suc, sym, true, ℕ, ◌*◌, ◌++◌, ◌+◌, ◌/◌, ◌==◌, ◌∙◌, ◌∷◌, ◌≡◌}
 use Rattle.sdd_watch.proofs.MadeLists.{picked_map}
-use Rattle.sdd_obligations.specs.All.{state_of}
-use Rattle.sdd_obligations.specs.site_module.SiteLog.{Log}
-use Rattle.sdd_obligations.specs.tm.State.{State}
+use Rattle.sdd_progress.specs.obligations.All.{state_of}
+use Rattle.sdd_progress.specs.obligations.site_module.SiteLog.{Log}
+use Rattle.sdd_progress.specs.obligations.tm.State.{State}
 
 -- whether it takes part or is down, a module keeps what follows from its log
 pub keeps_its_log : (part : Bool) (k : Kept State) (s : Setting) (log : Log) → LivesT part k s log → Queues k s log

@@ -1,7 +1,7 @@
 -- A site to which an event hands nothing and gives nothing, and at which nothing is due after its mark, does nothing in it: its
 -- log stays as the mark of the event leaves it. At a transaction module that comes up something may be due then.
 use Rattle.sdd_watch.proofs.All.{Act, Did, Does, Entry, Hand, Input, IsBetween, IsGood, IsLawful, IsMark, IsPermitted, IsSiteOf, IsThere, Log, Mark, None, Redeclares, Site, Some, Submitted, Tick, U, [], all_links, allowed_hand, ap, arith, base_of, does_at, does_none, false, handed, if◌then◌else◌, is_down, lawful_permitted, local_of, mark_due, marks, next_at, no_redeclare, none_any_base, none_at, none_more, none_same, not, nth_era, of_next, redeclares, refl, same_site, site_due, site_is, site_self, site_there, sites, subst, suc, sym, takes_at, ticked_none, true, txn_at, with_submit, ℕ, ◌++◌, ◌||◌, ◌∙◌, ◌∷◌, ◌≡◌}
-use Rattle.sdd_obligations.specs.All.{Handed}
+use Rattle.sdd_progress.specs.obligations.All.{Handed}
 use Rattle.sdd_watch.proofs.Between.{handed_rises}
 
 -- what a mark gives to a site comes right after it

@@ -1,6 +1,5 @@
 mod All
 mod Followed
-pub mod Apart
 pub mod AtD
 pub mod AtT
 pub mod Attempts
@@ -19,7 +18,6 @@ pub mod Found
 pub mod FoundBy
 mod GivenMore
 pub mod Happening
-pub mod HasInside
 pub mod KeptBeside
 pub mod LinksLooked
 pub mod Looked
@@ -42,7 +40,8 @@ mod TextSoFar
 pub mod ToTell
 pub mod Unapplied
 pub mod Visited
-pub use Rattle.sdd_run.proofs as run
+pub use Rattle.sdd_progress.proofs.obligations as obligations
+pub use Rattle.sdd_progress.proofs as progress
 pub mod FirstLinks
 mod LeftAlone
 mod LinksKept

@@ -1,6 +1,6 @@
 -- A link that an event doesn't touch, and on which nothing is put, stays as it is.
 use Rattle.sdd_watch.proofs.All.{Across, Along, Around, Bool, Call, D, Deliver, Does, Entry, Event, Found, From, Input, IsBetween, IsGood, IsMark, IsSiteOf, Link, List, Log, Lose, Mark, Msg, None, Nowhere, Puts, Reach, Redeclares, Site, Some, T, Tick, Ticked, U, WatchedLink, Way, [], all_sites, ap, are_linked, arith, arrived_on, calls_of, cond, cons_option, drop, drop_all, eq-eqb, false, filter, filter_map, found_by, handed, if◌then◌else◌, is_between, is_changed_link, is_empty, is_taken, is_touched, last_event, left_between, left_of, length, link, link_of, links_from, local_of, map, marks, may_act, may_change_from, not, numbered, purposed, put, puts, puts_to, reach_of, refl, same_site, sends_of_act, sent, sent_is, suc, sym, takes_one, true, turned, watched_link, ℕ, ◌&&◌, ◌++◌, ◌+◌, ◌==◌, ◌||◌, ◌∙◌, ◌∷◌, ◌≡◌}
-use Rattle.sdd_obligations.specs.site_module.SiteLog as site
+use Rattle.sdd_progress.specs.obligations.site_module.SiteLog as site
 use Rattle.sdd_watch.proofs.Between.{both_back}
 use Rattle.sdd_watch.proofs.Flights.{length_joined}
 use Rattle.sdd_watch.proofs.Reached.{aside_log, link_at_mark, neither, reach_after, touched_by_delivery, untouched_handed}

@@ -6,7 +6,7 @@ use Rattle.sdd_watch.proofs.LinksLooked.{as_many}
 use Rattle.sdd_watch.proofs.Reached.{neither, no_note}
 use Rattle.sdd_watch.proofs.Sourced.{source_there}
 use Rattle.sdd_watch.specs.Moments.{handed_on}
-use Rattle.sdd_obligations.specs.dm.Copies.{classes_of}
+use Rattle.sdd_progress.specs.obligations.dm.Copies.{classes_of}
 
 -- where nothing is handed to a site, as much is handed over on each link to it
 

@@ -4,9 +4,9 @@ use Rattle.sdd_watch.proofs.Came.{all_came, came_is, more_came, processed_is}
 use Rattle.sdd_watch.proofs.Between.{joined_more}
 use Rattle.sdd_watch.proofs.Reached.{neither}
 use Rattle.sdd_watch.proofs.Sourced.{source_there}
-use Rattle.sdd_run.specs.world.sites.Modules.{Represent}
-use Rattle.sdd_obligations.specs.pipe.Digest as digest
-use Rattle.sdd_obligations.specs.site_module.SiteLog as site
+use Rattle.sdd_schedule.specs.world.sites.Modules.{Represent}
+use Rattle.sdd_progress.specs.obligations.pipe.Digest as digest
+use Rattle.sdd_progress.specs.obligations.site_module.SiteLog as site
 
 -- the pipe in the module
 

@@ -1,8 +1,8 @@
 -- The queues of a transaction module, by what it keeps.
 use Rattle.sdd_watch.proofs.All.{Input, Kept, Log, Setting, T, TmNo, ap, local_of, map, map-map, queue_in, queues_at, runs, setting_of, sym, ◌∙◌, ◌≡◌}
-use Rattle.sdd_obligations.specs.site_module.SiteLog as site
-use Rattle.sdd_run.specs.txn_module.Represents as tm
-use Rattle.sdd_obligations.specs.tm.State as tm_state
+use Rattle.sdd_progress.specs.obligations.site_module.SiteLog as site
+use Rattle.sdd_schedule.specs.world.txn_module.Represents as tm
+use Rattle.sdd_progress.specs.obligations.tm.State as tm_state
 
 pub queues_reported : (g : Input) (log : Log) (t : TmNo) (k : Kept tm_state.State) → tm.Queues k (setting_of g (T t)) (local_of g (T t) log)
     → map queue_in k.value.classes ≡ queues_at g log t.0

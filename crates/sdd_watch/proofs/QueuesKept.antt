@@ -1,13 +1,13 @@
 -- Where no transaction enters a queue or leaves one, all queues stay as they are, and those of a site that doesn't act stay anyway.
 use Rattle.sdd_watch.proofs.All.{Act, All, All-get_or, All-head, All-tail, AreAside, Bool, IsGood, IsMark, IsSiteOf, Reach, all_sites, flat_map-append, length-map, looks, may_act, queues_from, queues_if, ClassNo, Commit, Did, Does, Entry, Hand, Happened, History, Input, IsBetween, List, Log, Mark, Notes, QueueDelta, QueueMoment, Queued, Rec, Records, Redeclares, Sends, Setting, Site, Some, Start, Submitted, T, D, U, Tick, Ticked, TxnNo, [], ap, append-nil, append_assoc, arith, changes, class_no, cond, drop, drop-append-le, drop_all, eq-eqb, false, flat_map, have_moved, history, if◌then◌else◌, is_empty, is_of_queue, length, list_any, list_any-append, local_of, map, marks, numbers_to, position, position_from, position_from-zero, queue_between, queue_in_log, queue_moment, queues_at, queues_of, refl, runs, same_site, setting_of, subst, sym, tried, true, txn_of, unwrap_or, ℕ, ◌&&◌, ◌++◌, ◌+◌, ◌-◌, ◌==◌, ◌||◌, ◌∙◌, ◌∷◌, ◌≡◌, ◌<◌, ◌≤◌, get_or}
-use Rattle.sdd_obligations.specs.All.{Handed}
+use Rattle.sdd_progress.specs.obligations.All.{Handed}
 use Rattle.sdd_watch.proofs.Between.{joined_more}
 use Rattle.sdd_watch.proofs.Flights.{length_joined}
 use Rattle.sdd_watch.proofs.Recorded.{ends}
 use Rattle.sdd_watch.proofs.Happening.{sites_there}
 use Rattle.sdd_watch.proofs.Reached.{aside_log, neither, reach_after}
 use Rattle.sdd_inside.specs.Differences.{came, gone, is_first}
-use Rattle.sdd_obligations.specs.site_module.SiteLog as site
+use Rattle.sdd_progress.specs.obligations.site_module.SiteLog as site
 
 -- an entry by which a transaction enters a queue or leaves one
 

@@ -1,11 +1,11 @@
 -- The DONEs that were handed to the module for undeclared transactions are those that its own log has.
 use Rattle.sdd_watch.proofs.All.{AreDones, Bool, Calm, D, Done, Dones, Input, IsLinkOf, IsPermitted, Kept, List, Log, Message, Msg, Site, U, World, [], ap, arith, cond, contains, d_site, dm_no, false, filter, handed, hands_from, if◌then◌else◌, in_order, is_done_at, lawful_permitted, list_any, list_any-append, local_of, map, not, numbered, numbers_to, pair_cmp, range_with_len, refl, says_applied, sent, sent_is, setting_of, suc, sym, take, true, unapplied_of, zero, ℕ, ◌&&◌, ◌++◌, ◌+◌, ◌<◌, ◌==◌, ◌||◌, ◌∙◌, ◌∷◌, ◌≡◌, ◌≤◌}
-use Rattle.sdd_obligations.specs.All.{Handed}
-use Rattle.sdd_run.specs.u_module.Represents.{Represents}
-use Rattle.sdd_obligations.specs.umod.State.{State}
+use Rattle.sdd_progress.specs.obligations.All.{Handed}
+use Rattle.sdd_schedule.specs.world.u_module.Represents.{Represents}
+use Rattle.sdd_progress.specs.obligations.umod.State.{State}
 use Rattle.sdd_watch.specs.Moments.{handed_on}
-use Rattle.sdd_obligations.proofs.invariants.HoldChain.{same_turned as turned}
-use Rattle.sdd_obligations.specs.site_module.SiteLog as site
+use Rattle.sdd_progress.proofs.obligations.invariants.HoldChain.{same_turned as turned}
+use Rattle.sdd_progress.specs.obligations.site_module.SiteLog as site
 
 -- by messages
 

@@ -1,8 +1,8 @@
 -- The messages of a link that aren't handed over, as far as what they are for is reported.
--- For the contracts of the code: not needed to read `IsInsideOf`.
+-- For the contracts of the code: not needed to read `IsTextOf`.
 use Rattle.std.specs.Prelude.{ℕ, nat_le, nat_lt, ◌==◌, if◌then◌else◌, List, [], ◌∷◌, drop, filter_map, option_map, Option, Some, None}
-use Rattle.sdd_obligations.specs.All.{Ack, Done, Log, Message, Msg, Null, Packet, Read, Site, Write, handed, sent}
-use Rattle.sdd_obligations.specs.net.Links.{numbered}
+use Rattle.sdd_progress.specs.obligations.All.{Ack, Done, Log, Message, Msg, Null, Packet, Read, Site, Write, handed, sent}
+use Rattle.sdd_progress.specs.obligations.net.Links.{numbered}
 use Rattle.sdd_watch.specs.declared.waiting.Purpose.{Purpose}
 use Rattle.sdd_watch.specs.declared.waiting.Purpose.TheVariants.{Applied, Piped}
 

@@ -9,34 +9,34 @@ use Rattle.sdd_inside.specs.declared.delta.Taken.{Taken}
 use Rattle.sdd_inside.specs.declared.delta.Taken.TheVariants as takens
 use Rattle.sdd_inside.specs.declared.moment.Happened.{Happened}
 use Rattle.sdd_inside.specs.declared.standing.SiteState.{SiteState}
-use Rattle.sdd_obligations.specs.base.Sites.{same_site, sites}
-use Rattle.sdd_obligations.specs.base.Words.{is_empty}
-use Rattle.sdd_obligations.specs.base.declared.change.Change.{Change}
-use Rattle.sdd_obligations.specs.base.declared.event.Event.{Event}
-use Rattle.sdd_obligations.specs.base.declared.event.Event.TheVariants.{Deliver, Down, Lose, Redeclare, Repeat, Resend, Submit, Tick, Up}
-use Rattle.sdd_obligations.specs.base.declared.number.DmNo.{DmNo}
-use Rattle.sdd_obligations.specs.base.declared.number.TxnNo.{TxnNo}
-use Rattle.sdd_obligations.specs.base.declared.site.Site.{Site}
-use Rattle.sdd_obligations.specs.base.declared.site.Site.TheVariants.{D, T}
-use Rattle.sdd_obligations.specs.copy.Contents.{Dated, latest, of_fragment}
-use Rattle.sdd_obligations.specs.dm.Copies.{dated}
-use Rattle.sdd_obligations.specs.history.Records.{History}
-use Rattle.sdd_obligations.specs.history.declared.record.Rec.{Rec}
-use Rattle.sdd_obligations.specs.history.declared.record.Rec.TheVariants.{Apply, Commit, Submit as Submission}
-use Rattle.sdd_obligations.specs.invariants.Steps.{changes_at}
-use Rattle.sdd_obligations.specs.lang.Database.{Row}
-use Rattle.sdd_obligations.specs.logs.Due.{home_of as class_site}
-use Rattle.sdd_obligations.specs.logs.Entries.{Input, Log, history, marks}
-use Rattle.sdd_obligations.specs.logs.Locals.{local_of, nth_era, redeclares, setting_of, txn_at}
-use Rattle.sdd_obligations.specs.logs.Traffic.{all_links, handed, is_down, link_of}
-use Rattle.sdd_obligations.specs.net.Links.{delivered, packet_at, unacked}
-use Rattle.sdd_obligations.specs.net.declared.packet.Packet.{Packet}
-use Rattle.sdd_obligations.specs.net.declared.packet.Packet.TheVariants.{Ack, Message}
-use Rattle.sdd_obligations.specs.wire.declared.msg.Msg.{Msg}
-use Rattle.sdd_run.specs.world.Pending.{commits}
+use Rattle.sdd_progress.specs.obligations.base.Sites.{same_site, sites}
+use Rattle.sdd_progress.specs.obligations.base.Words.{is_empty}
+use Rattle.sdd_progress.specs.obligations.base.declared.change.Change.{Change}
+use Rattle.sdd_progress.specs.obligations.base.declared.event.Event.{Event}
+use Rattle.sdd_progress.specs.obligations.base.declared.event.Event.TheVariants.{Deliver, Down, Lose, Redeclare, Repeat, Resend, Submit, Tick, Up}
+use Rattle.sdd_progress.specs.obligations.base.declared.number.DmNo.{DmNo}
+use Rattle.sdd_progress.specs.obligations.base.declared.number.TxnNo.{TxnNo}
+use Rattle.sdd_progress.specs.obligations.base.declared.site.Site.{Site}
+use Rattle.sdd_progress.specs.obligations.base.declared.site.Site.TheVariants.{D, T}
+use Rattle.sdd_progress.specs.obligations.copy.Contents.{Dated, latest, of_fragment}
+use Rattle.sdd_progress.specs.obligations.dm.Copies.{dated}
+use Rattle.sdd_progress.specs.obligations.history.Records.{History}
+use Rattle.sdd_progress.specs.obligations.history.declared.record.Rec.{Rec}
+use Rattle.sdd_progress.specs.obligations.history.declared.record.Rec.TheVariants.{Apply, Commit, Submit as Submission}
+use Rattle.sdd_progress.specs.obligations.invariants.Steps.{changes_at}
+use Rattle.sdd_progress.specs.obligations.lang.Database.{Row}
+use Rattle.sdd_progress.specs.obligations.logs.Due.{home_of as class_site}
+use Rattle.sdd_progress.specs.obligations.logs.Entries.{Input, Log, history, marks}
+use Rattle.sdd_progress.specs.obligations.logs.Locals.{local_of, nth_era, redeclares, setting_of, txn_at}
+use Rattle.sdd_progress.specs.obligations.logs.Traffic.{all_links, handed, is_down, link_of}
+use Rattle.sdd_progress.specs.obligations.net.Links.{delivered, packet_at, unacked}
+use Rattle.sdd_progress.specs.obligations.net.declared.packet.Packet.{Packet}
+use Rattle.sdd_progress.specs.obligations.net.declared.packet.Packet.TheVariants.{Ack, Message}
+use Rattle.sdd_progress.specs.obligations.wire.declared.msg.Msg.{Msg}
+use Rattle.sdd_schedule.specs.world.Pending.{commits}
 use Rattle.sdd_watch.specs.States.{state_of}
 -- where an event stands in the schedule
-pub use Rattle.sdd_run.specs.schedule.Places.{if_in_round, last_event, place_in, place_of_first, round_at, round_in, rounds, scheduled_at}
+pub use Rattle.sdd_schedule.specs.Places.{if_in_round, last_event, place_in, place_of_first, round_at, round_in, rounds, scheduled_at}
 
 -- what it found
 

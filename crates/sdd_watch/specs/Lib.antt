@@ -8,4 +8,4 @@ pub mod States
 pub mod ScheduleSoFar
 pub mod Text
 pub mod Watching
-pub use Rattle.sdd_run.specs as run
+pub use Rattle.sdd_progress.specs.obligations as obligations

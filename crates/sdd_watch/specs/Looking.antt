@@ -1,21 +1,23 @@
 -- What a look at the parts of a world finds, and what of it is kept, by what was kept before.
--- For the contracts of the code: not needed to read `IsInsideOf`.
+-- For the contracts of the code: not needed to read `IsTextOf`.
 use Rattle.std.specs.Prelude.{ℕ, ◌+◌, ◌≡◌, ◌==◌, ◌&&◌, Bool, false, if◌then◌else◌, List, [], ◌++◌, filter, filter_map, find, length, map, Option, Some, None}
-use Rattle.std.specs.List.{list_any}
-use Rattle.sdd_obligations.specs.All.{D, Input, IsSiteOf, Log, Msg, Packet, Queued, Site, U, class_no}
-use Rattle.sdd_obligations.specs.attempt.Queues.{txn_of}
-use Rattle.sdd_obligations.specs.tm.State.{ClassState}
+use Rattle.std.specs.List.{flat_map, list_any}
+use Rattle.sdd_progress.specs.obligations.All.{D, Input, IsSiteOf, Log, Msg, Packet, Queued, Site, U, class_no, numbers_to}
+use Rattle.sdd_progress.specs.obligations.attempt.Queues.{txn_of}
+use Rattle.sdd_progress.specs.obligations.tm.State.{ClassState}
 use Rattle.sdd_inside.specs.declared.moment.LinkMoment.{LinkMoment}
 use Rattle.sdd_inside.specs.declared.moment.PipeMoment.{PipeMoment}
 use Rattle.sdd_inside.specs.declared.moment.QueueMoment.{QueueMoment}
 use Rattle.sdd_watch.specs.Awaiting.{behind, number_for, purposed_above, up_to}
 use Rattle.sdd_watch.specs.Moments.{queues_from}
 use Rattle.sdd_watch.specs.Reaching.{may_act}
-use Rattle.sdd_watch.specs.Watching.{arrived_on, is_changed_link, is_changed_pipe, is_on, link_after, link_before, pipe_after, pipe_before}
+use Rattle.sdd_watch.specs.Watching.{Knows, all_sites, arrived, arrived_on, changed_links, changed_pipes, is_changed_link, is_changed_pipe, is_on, link_after, link_before, pipe_after, pipe_before, queues_by, watched_links, watched_pipes}
 use Rattle.sdd_watch.specs.declared.both.Both.{Both}
 use Rattle.sdd_watch.specs.declared.reach.Reach.{Reach}
 use Rattle.sdd_watch.specs.declared.waiting.Purpose.{Purpose}
 use Rattle.sdd_watch.specs.declared.waiting.Purpose.TheVariants.{Applied, Piped}
+use Rattle.sdd_watch.specs.declared.watch.Seen.{Seen}
+use Rattle.sdd_watch.specs.declared.watch.Watch.{Watch}
 use Rattle.sdd_watch.specs.declared.watched_link.Arrived.{Arrived}
 use Rattle.sdd_watch.specs.declared.watched_link.LinkSeen.{LinkSeen}
 use Rattle.sdd_watch.specs.declared.on_links.OnLinks.{OnLinks}
@@ -101,3 +103,24 @@ says_between t d l messages = false
 
 abbrev pub says : ℕ → ℕ → Arrived → Bool
 says t d one = says_between t d (one.from, one.to) one.messages
+
+-- What was seen at an event: of the links and pipes of which something is reported the cut moments, the messages that were handed
+-- over, and the queues that are looked at.
+pub record IsSeen (g : Input) (old new : Log) (s : Seen) : Type 0 where
+  pub links_before : s.links.moments.before.items ≡ map (link_before old) (changed_links g old new)
+  pub links_after : s.links.moments.after.items ≡ map (link_after old new) (changed_links g old new)
+  pub arrived_is : s.links.arrived.items ≡ arrived g old new
+  pub moved : Bool
+  pub reach : Reach
+  pub aside : AreAside g old new moved reach
+  pub queues_before : s.queues.before.items ≡ flat_map (queues_if moved reach g old) (all_sites g)
+  pub queues_after : s.queues.after.items ≡ flat_map (queues_if moved reach g new) (all_sites g)
+  pub pipes_before : s.pipes.before.items ≡ map (pipe_before g old new) (changed_pipes g old new)
+  pub pipes_after : s.pipes.after.items ≡ map (pipe_after g old new) (changed_pipes g old new)
+
+-- links, queues and pipes are kept as they are after the event, and what is kept beside them as it was before it
+pub record HasLooked (g : Input) (old new : Log) (w : Watch) : Type 0 where
+  pub knows : Knows g old w
+  pub links : w.links.items ≡ map (watched_links g new) (all_sites g)
+  pub queues : w.queues.items ≡ map (queues_by g new) (all_sites g)
+  pub pipes : w.pipes.items ≡ map (watched_pipes g new) (numbers_to g.catalogue.dms)

@@ -1,11 +1,11 @@
 -- What stands where in a run, as its log gives it, when one of its events is over.
 use Rattle.std.specs.Prelude.{ℕ, nat_le, if◌then◌else◌, List, [], ◌∷◌, length, map, take, Option, Some, None}
 use Rattle.std.specs.List.{filter_map, flat_map}
-use Rattle.sdd_obligations.specs.All.{Ack, D, Input, Log, Message, Msg, Packet, Pipe, Site, T, U, all_links, class_no, dm_no, goes_through, handed, head, home_of, link_of, local_of, marks, numbers_to, pipe, queue, runs, sent, setting_of, source_of, time_at, time_of, tm_no, txn_no}
-use Rattle.sdd_obligations.specs.dm.Copies.{classes_of}
-use Rattle.sdd_obligations.specs.dm.Due.{or_zero}
-use Rattle.sdd_obligations.specs.net.Links.{numbered}
-use Rattle.sdd_obligations.specs.pipe.Pipe.{greatest}
+use Rattle.sdd_progress.specs.obligations.All.{Ack, D, Input, Log, Message, Msg, Packet, Pipe, Site, T, U, all_links, class_no, dm_no, goes_through, handed, head, home_of, link_of, local_of, marks, numbers_to, pipe, queue, runs, sent, setting_of, source_of, time_at, time_of, tm_no, txn_no}
+use Rattle.sdd_progress.specs.obligations.dm.Copies.{classes_of}
+use Rattle.sdd_progress.specs.obligations.dm.Due.{or_zero}
+use Rattle.sdd_progress.specs.obligations.net.Links.{numbered}
+use Rattle.sdd_progress.specs.obligations.pipe.Pipe.{greatest}
 use Rattle.sdd_inside.specs.declared.moment.LinkMoment.{LinkMoment}
 use Rattle.sdd_inside.specs.declared.moment.Moment.{Moment}
 use Rattle.sdd_inside.specs.declared.moment.PipeMoment.{PipeMoment}

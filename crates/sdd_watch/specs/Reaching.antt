@@ -1,9 +1,9 @@
 -- Which links an event may change: those on which it delivers, loses, repeats or resends, those to a module that comes up,
 -- and those from the site that acts, as a module that comes up may.
--- For the contracts of the code: not needed to read `IsInsideOf`.
+-- For the contracts of the code: not needed to read `IsTextOf`.
 use Rattle.std.specs.Prelude.{Bool, false, true, ◌&&◌, ◌||◌, if◌then◌else◌, Option, None, Some}
-use Rattle.sdd_obligations.specs.All.{Deliver, Event, Input, Log, Lose, Repeat, Resend, Site, Submit, U, Up, nth_era, redeclares, same_site, txn_at}
-use Rattle.sdd_obligations.specs.logs.Due.{home_of}
+use Rattle.sdd_progress.specs.obligations.All.{Deliver, Event, Input, Log, Lose, Repeat, Resend, Site, Submit, U, Up, nth_era, redeclares, same_site, txn_at}
+use Rattle.sdd_progress.specs.obligations.logs.Due.{home_of}
 use Rattle.sdd_inside.specs.declared.delta.Found.{Found}
 use Rattle.sdd_inside.specs.declared.delta.Found.TheVariants as founds
 use Rattle.sdd_watch.specs.Happens.{found_by, last_event}

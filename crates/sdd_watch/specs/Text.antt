@@ -1,14 +1,13 @@
--- The text of what happens inside the run of a workload.
+-- The text of what happens while a world carries out what it is given.
 use Rattle.std.specs.Prelude.{ℕ, ◌-◌, ◌≡◌, List, [], ◌++◌}
 use Rattle.std.specs.List.{flat_map}
 use Rattle.sdd_inside.specs.Differences.{difference}
 use Rattle.sdd_inside.specs.Lines.{beginning, line}
 use Rattle.sdd_inside.specs.declared.delta.Delta.{Delta}
-use Rattle.sdd_obligations.specs.catalog.Catalogue.{Catalogue, numbers_to}
-use Rattle.sdd_obligations.specs.logs.Entries.{Input, Log, marks}
-use Rattle.sdd_run.specs.Runs.{Run, input}
-use Rattle.sdd_run.specs.script.declared.workload.Workload.{Workload}
-use Rattle.sdd_run.specs.world.Copies.{tables_of}
+use Rattle.sdd_progress.specs.obligations.catalog.Catalogue.{Catalogue, numbers_to}
+use Rattle.sdd_progress.specs.obligations.logs.Entries.{Input, Log, marks}
+use Rattle.sdd_progress.specs.obligations.logs.Lawful.{IsTheLog}
+use Rattle.sdd_schedule.specs.world.Copies.{tables_of}
 use Rattle.sdd_watch.specs.Happens.{happened_at}
 use Rattle.sdd_watch.specs.Moments.{at_event, moment_of}
 
@@ -24,7 +23,8 @@ line_of g log k = line g.catalogue g.txns (change g (at_event (k - 1) log) (at_e
 abbrev pub inside_text : Input → Log → List ℕ
 inside_text g log = beginning g.catalogue g.txns (tables_of g []) ++ flat_map (line_of g log) (numbers_to (marks log))
 
--- A text is that of the run of a workload: of the same run as its report is (`IsReportOn`).
-pub record IsInsideOf (cat : Catalogue) (work : Workload) (text : List ℕ) : Type 0 where
-  pub of_run : Run cat work
-  pub text_is : text ≡ inside_text (input of_run) of_run.log
+-- A text is that of what is given: of *the* log of it.
+pub record IsTextOf (g : Input) (text : List ℕ) : Type 0 where
+  pub log : Log
+  pub log_is : IsTheLog g log
+  pub text_is : text ≡ inside_text g log

@@ -1,23 +1,23 @@
 -- What is kept between two events of what stood where, as the log gives it when the last event was over.
--- For the contracts of the code: not needed to read `IsInsideOf`.
+-- For the contracts of the code: not needed to read `IsTextOf`.
 use Rattle.std.specs.Prelude.{ℕ, ◌-◌, ◌≡◌, ◌==◌, ◌&&◌, Bool, cond, false, not, if◌then◌else◌, List, [], drop, filter, filter_map, is_some, length, map, option_map, Option, Some, None}
 use Rattle.std.specs.BTreeMap.{get}
 use Rattle.std.specs.BTreeSet.{contains}
 use Rattle.std.specs.List.{list_any, position}
 use Rattle.std.specs.Ordering.{nat_cmp}
-use Rattle.sdd_obligations.specs.All.{D, Deliver, Done, Down, Event, History, Input, IsLinkOf, Log, Lose, Message, Msg, Packet, Repeat, Resend, Site, U, Up, all_links, are_linked, class_no, dm_no, handed, history, is_down, is_empty, link_of, local_of, numbers_to, packet_at, pipe, same_site, sent, sites, time_at}
-use Rattle.sdd_obligations.specs.net.Links.{unacked}
-use Rattle.sdd_obligations.specs.links.Finding.{pair_cmp}
+use Rattle.sdd_progress.specs.obligations.All.{D, Deliver, Done, Down, Event, History, Input, IsLinkOf, Log, Lose, Message, Msg, Packet, Repeat, Resend, Site, U, Up, all_links, are_linked, class_no, dm_no, handed, history, is_down, is_empty, link_of, local_of, numbers_to, packet_at, pipe, same_site, sent, sites, time_at}
+use Rattle.sdd_progress.specs.obligations.net.Links.{unacked}
+use Rattle.sdd_progress.specs.obligations.links.Finding.{pair_cmp}
 use Rattle.sdd_inside.specs.Differences.{is_of_link, takes_one}
 use Rattle.sdd_inside.specs.declared.delta.Found.{Found}
 use Rattle.sdd_inside.specs.declared.delta.Taken.{Taken}
 use Rattle.sdd_inside.specs.declared.moment.LinkMoment.{LinkMoment}
 use Rattle.sdd_inside.specs.declared.moment.PipeMoment.{PipeMoment}
 use Rattle.sdd_inside.specs.declared.moment.QueueMoment.{QueueMoment}
-use Rattle.sdd_run.specs.world.Pending.{commits}
-use Rattle.sdd_run.specs.schedule.declared.turn.Turn.{Turn}
-use Rattle.sdd_run.specs.world.Represents.{Calm}
-use Rattle.sdd_run.specs.world.declared.world.World.{World}
+use Rattle.sdd_schedule.specs.world.Pending.{commits}
+use Rattle.sdd_schedule.specs.declared.turn.Turn.{Turn}
+use Rattle.sdd_schedule.specs.world.Represents.{Calm}
+use Rattle.sdd_schedule.specs.world.declared.world.World.{World}
 use Rattle.sdd_watch.specs.Awaiting.{purposed, waiting_on}
 use Rattle.sdd_watch.specs.Happens.{found_by, last_event, taken}
 use Rattle.sdd_watch.specs.Moments.{all_pipes, came, handed_on, passed_to, pipes_at_module, queues_from, source}
@@ -31,7 +31,7 @@ use Rattle.sdd_watch.specs.declared.watched_link.LinkSeen.{LinkSeen}
 use Rattle.sdd_watch.specs.declared.watched_link.WatchedLink.{WatchedLink}
 use Rattle.sdd_watch.specs.declared.watched_pipe.WatchedPipe.{WatchedPipe}
 -- between two logs
-pub use Rattle.sdd_run.specs.schedule.Events.{IsBetween, IsMark, IsTellable, IsTurn}
+pub use Rattle.sdd_schedule.specs.Events.{IsBetween, IsMark, IsTellable, IsTurn}
 
 -- the world is that after the event, and this is what it found
 pub record IsOver (g : Input) (old new : Log) (w : World) (e : Event) (found : Found) : Type 0 where

@@ -1,5 +1,5 @@
 //! What is kept of the parts that belong to one site.
-use sdd_obligations::Site;
+use sdd_progress::Site;
 use std::marker::Model;
 
 /// The parts of a moment that belong to a site. Contracts see the site, and the list of the parts.
@@ -11,7 +11,7 @@ pub(crate) struct AtSite<T> {
 
 impl<T> Model for AtSite<T> {
     ghost use Rattle.std.specs.Prelude.{List};
-    ghost use Rattle.sdd_obligations.specs.All.{Site};
+    ghost use Rattle.sdd_progress.specs.obligations.All.{Site};
 
     ghost Value = { Site × List T };
 

@@ -1,7 +1,7 @@
 //! Parts of a moment, as they were before an event and as they are after it.
 ghost use Rattle.std.specs.Prelude.{◌≡◌, ◌++◌, ◌∷◌, [], OnOk};
 
-use sdd_obligations::NoMemory;
+use sdd_progress::NoMemory;
 use std::alloc::Global;
 
 /// Parts of a moment, as they were before an event and as they are after it.

@@ -1,8 +1,7 @@
-//! What happens inside a run, event by event, and the text of it.
+//! What happens while a world carries out a schedule, event by event, and the text of it.
 //!
-//! The contract to the layer above: `inside_text` is the text of the run of a workload on a catalogue,
-//! one line for each event, or the limit ends that run; there is such a text (`law_has_inside`), and
-//! one only (`law_one_inside`).
+//! The contract to the layer above: `schedule_text` is the text of *the* log of what the world is given
+//! (`IsTextOf`, `specs/Text.antt`), one line for each event, or the limit ends that log.
 //!
 //! `Watch` keeps what stood where when the last event was over, by numbers where a list is long; what
 //! an event changed is read from the world after it. Looked at are the links of the sites that the
@@ -19,8 +18,6 @@ mod both;
 mod commits;
 mod dones;
 mod foreseen;
-mod inside;
-mod law;
 mod on_links;
 mod places;
 mod queues;
@@ -33,7 +30,9 @@ mod waiting;
 mod watch;
 mod watched_link;
 mod watched_pipe;
+mod whole_text;
 
-pub use inside::inside_text;
-pub use law::{law_has_inside, law_one_inside};
-pub use sdd_run::WorldEnd;
+pub use whole_text::schedule_text;
+
+// What lies below, for the crates above.
+pub use sdd_progress::Table;

@@ -1,8 +1,8 @@
 //! The links that an event may have changed.
 ghost use Rattle.std.specs.Prelude.{◌≡◌, ◌==◌, ◌&&◌, ◌||◌, ◌++◌, ◌∷◌, [], cond, length, map, not, IfOk, OnOk};
 ghost use Rattle.std.specs.List.{cons_option};
-ghost use Rattle.sdd_obligations.specs.All.{Input, IsLinkOf, IsSiteOf, Log, Site as Place, sent};
-ghost use Rattle.sdd_run.specs.world.Represents.{Calm};
+ghost use Rattle.sdd_progress.specs.obligations.All.{Input, IsLinkOf, IsSiteOf, Log, Site as Place, sent};
+ghost use Rattle.sdd_schedule.specs.world.Represents.{Calm};
 ghost use Rattle.sdd_watch.specs.Looking.{AreSeen};
 ghost use Rattle.sdd_watch.specs.Reaching.{is_to, may_act, reach_of, touched_from};
 ghost use Rattle.sdd_watch.specs.Watching.{IsOver, all_sites, arrived, changed_links, is_still_link, link_after, link_before, links_from, watched_link, watched_links};
@@ -12,8 +12,8 @@ use crate::both::Both;
 use crate::reach::{Reach, is_to, may_act, next_reached, touched_from};
 use crate::watched_link::{Arrived, LinkSeen, WatchedLink};
 use sdd_inside::{Found, LinkMoment};
-use sdd_obligations::{Event, NoMemory, Site};
-use sdd_run::World;
+use sdd_progress::{Event, NoMemory, Site};
+use sdd_schedule::World;
 use std::alloc::Global;
 
 /// What happened on links.

@@ -1,9 +1,9 @@
 //! The sites of a network, in their order, and between which of them links are.
 ghost use Rattle.std.specs.Prelude.{◌≡◌, ◌≤◌, IfOk};
-ghost use Rattle.sdd_obligations.specs.net.Nets.{place_of};
-ghost use Rattle.sdd_obligations.specs.All.{MAX_DMS, MAX_TMS, are_linked as are_linked_by, same_site, sites};
+ghost use Rattle.sdd_progress.specs.obligations.net.Nets.{place_of};
+ghost use Rattle.sdd_progress.specs.obligations.All.{MAX_DMS, MAX_TMS, are_linked as are_linked_by, same_site, sites};
 
-use sdd_obligations::{DmNo, NoMemory, Site, TmNo};
+use sdd_progress::{DmNo, NoMemory, Site, TmNo};
 use std::alloc::Global;
 
 /// Whether two sites are the same.

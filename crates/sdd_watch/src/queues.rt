@@ -1,8 +1,8 @@
 //! The queues of classes.
 ghost use Rattle.std.specs.Prelude.{◌≡◌, ◌++◌, ◌∷◌, [], ℕ, drop, map, IfOk, OnOk};
 ghost use Rattle.std.specs.List.{flat_map, list_any};
-ghost use Rattle.sdd_obligations.specs.All.{Input, IsSiteOf, Log, Site as Place, T};
-ghost use Rattle.sdd_run.specs.world.Represents.{Calm};
+ghost use Rattle.sdd_progress.specs.obligations.All.{Input, IsSiteOf, Log, Site as Place, T};
+ghost use Rattle.sdd_schedule.specs.world.Represents.{Calm};
 ghost use Rattle.sdd_watch.specs.Looking.{AreAside, looks, queue_in, queue_of, queues_if};
 ghost use Rattle.sdd_watch.specs.Happens.{is_of_queue};
 ghost use Rattle.sdd_watch.specs.Moments.{queues_at, queues_from};
@@ -13,8 +13,8 @@ use crate::both::Both;
 use crate::places::all_sites;
 use crate::reach::{Reach, may_act};
 use sdd_inside::QueueMoment;
-use sdd_obligations::{Listed, NoMemory, Parcel, Rec, Site, TmNo, TxnNo};
-use sdd_run::{ClassRun, Line, World};
+use sdd_progress::{Listed, NoMemory, Parcel, Rec, Site, TmNo, TxnNo};
+use sdd_schedule::{ClassRun, Line, World};
 use std::alloc::Global;
 use std::mem;
 

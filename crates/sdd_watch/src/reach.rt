@@ -1,15 +1,15 @@
 //! Which links an event may have changed.
 ghost use Rattle.std.specs.Prelude.{◌≡◌, ◌≤◌, ◌<◌, ℕ, false};
-ghost use Rattle.sdd_obligations.specs.All.{Input, Log, Site as Place};
-ghost use Rattle.sdd_obligations.specs.net.Nets.{place_of};
-ghost use Rattle.sdd_run.specs.world.Represents.{Calm};
+ghost use Rattle.sdd_progress.specs.obligations.All.{Input, Log, Site as Place};
+ghost use Rattle.sdd_progress.specs.obligations.net.Nets.{place_of};
+ghost use Rattle.sdd_schedule.specs.world.Represents.{Calm};
 ghost use Rattle.sdd_watch.specs.Reaching.{actor, home_in, is_to, may_act, may_change_from, other_end, reach_of, reach_of_delivery, touched_from};
 
 use crate::places::{is_same, place_of};
 use crate::taking_part::home_of;
 use sdd_inside::Found;
-use sdd_obligations::{Event, Site};
-use sdd_run::World;
+use sdd_progress::{Event, Site};
+use sdd_schedule::World;
 
 /// Which links an event may have changed.
 #[derive(Clone, Copy)]

@@ -1,10 +1,10 @@
 //! Which sites take part in an event, and how they stand.
 ghost use Rattle.std.specs.Prelude.{◌≡◌, ◌++◌, ◌∷◌, ◌&&◌, [], All, false, filter, map, true, IfOk, OnOk};
 ghost use Rattle.std.specs.List.{list_any};
-ghost use Rattle.sdd_obligations.specs.All.{Input, IsSiteOf, Log, Redeclare, Site as Place, nth_era, redeclares, same_site, txn_at};
-ghost use Rattle.sdd_obligations.specs.logs.Due.{home_of as class_site};
+ghost use Rattle.sdd_progress.specs.obligations.All.{Input, IsSiteOf, Log, Redeclare, Site as Place, nth_era, redeclares, same_site, txn_at};
+ghost use Rattle.sdd_progress.specs.obligations.logs.Due.{home_of as class_site};
 ghost use Rattle.sdd_inside.specs.declared.delta.Found.{Found as Finding};
-ghost use Rattle.sdd_run.specs.world.Represents.{Calm};
+ghost use Rattle.sdd_schedule.specs.world.Represents.{Calm};
 ghost use Rattle.sdd_watch.specs.Happens.{concerns, found_by, is_something, last_event, takes_part};
 ghost use Rattle.sdd_watch.specs.Reaching.{given_to};
 ghost use Rattle.sdd_watch.specs.States.{state_of};
@@ -15,8 +15,8 @@ use crate::places::is_same;
 use crate::states::state;
 use crate::watched_link::Arrived;
 use sdd_inside::{Found, SiteState};
-use sdd_obligations::{Event, NoMemory, Site, TxnNo};
-use sdd_run::{World, home};
+use sdd_progress::{Event, NoMemory, Site, TxnNo};
+use sdd_schedule::{World, home};
 use std::alloc::Global;
 
 fn is_something(found: &Found) -> bool

@@ -2,7 +2,7 @@
 ghost use Rattle.std.specs.Prelude.{◌≡◌, ◌≤◌, ◌++◌, ◌∷◌, [], filter_map, IfOk, MatchOption, OnOk};
 ghost use Rattle.sdd_watch.specs.Awaiting.{behind, purpose_of, purposed_above, up_to};
 
-use sdd_obligations::{ClassNo, Msg, NoMemory, Packet, Ts};
+use sdd_progress::{ClassNo, Msg, NoMemory, Packet, Ts};
 use std::alloc::Global;
 use std::collections::VecDeque;
 use std::marker::Model;

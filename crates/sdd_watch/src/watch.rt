@@ -1,9 +1,11 @@
 //! What stood where when an event was over, and what the next one changed.
 ghost use Rattle.std.specs.Prelude.{◌≡◌, ◌++◌, ◌∷◌, [], cond, length, map, IfOk, OnOk};
-ghost use Rattle.sdd_obligations.specs.All.{Input, Log, are_linked as are_linked_by, history};
-ghost use Rattle.sdd_run.specs.world.Represents.{Calm};
+ghost use Rattle.sdd_inside.specs.Differences.{difference};
+ghost use Rattle.sdd_progress.specs.obligations.All.{Input, Log, are_linked as are_linked_by, history};
+ghost use Rattle.sdd_schedule.specs.world.Represents.{Calm};
 ghost use Rattle.sdd_watch.specs.Happens.{happened_at, rows_of};
-ghost use Rattle.sdd_watch.specs.Reaching.{given_to};
+ghost use Rattle.sdd_watch.specs.Looking.{HasLooked, IsSeen};
+ghost use Rattle.sdd_watch.specs.Reaching.{given_to, reach_of};
 ghost use Rattle.sdd_watch.specs.Text.{change};
 ghost use Rattle.sdd_watch.specs.Watching.{AreCommits, IsBetween, IsOver, IsTurn, Knows, Watches, all_sites, arrived as arrived_between, watched_link, watched_links};
 
@@ -14,7 +16,7 @@ use crate::dones::Dones;
 use crate::on_links::{OnLinks, look_at_links};
 use crate::places::{all_sites, are_linked};
 use crate::queues::{all_queues, have_moved, look_at_queues};
-use crate::reach::{home_in, reach_of};
+use crate::reach::{Reach, home_in, reach_of};
 use crate::rows::rows_from;
 use crate::taking_part::{busy, states};
 use crate::watched_link::{Arrived, WatchedLink};
@@ -22,8 +24,8 @@ use crate::watched_pipe::{WatchedPipe, first_pipes, look_at_pipes};
 use sdd_inside::{
     Delta, Found, Happened, LinkMoment, Moment, PipeMoment, QueueMoment, RowDelta, difference,
 };
-use sdd_obligations::{Catalogue, Event, Listed, NoMemory, Site};
-use sdd_run::{Turn, World};
+use sdd_progress::{Catalogue, Event, Listed, NoMemory, Site};
+use sdd_schedule::{Turn, World};
 use std::alloc::Global;
 
 /// What stood where when the last event was over.
@@ -38,6 +40,14 @@ pub(crate) struct Watch {
     records: usize,
     commits: Commits,
     dones: Dones,
+}
+
+/// What was seen of the links, queues and pipes that an event may have changed.
+#[derive(Drop)]
+pub(crate) struct Seen {
+    pub(crate) links: OnLinks,
+    pub(crate) queues: Both<QueueMoment>,
+    pub(crate) pipes: Both<PipeMoment>,
 }
 
 /// Adds a link on which nothing was done, where there is one between these sites.
@@ -117,6 +127,29 @@ fn moments(
     (before, after)
 }
 
+/// What an event changed at which this happened, where this was seen of its moments.
+fn changed(alloc: Global, happened: Happened, seen: Seen) -> Result<Delta, NoMemory>
+    ensures { IfOk result (λ delta. delta ≡ difference happened
+        (record {
+          links = seen.links.moments.before.items;
+          queues = seen.queues.before.items;
+          pipes = seen.pipes.before.items;
+        })
+        (record {
+          links = seen.links.moments.after.items;
+          queues = seen.queues.after.items;
+          pipes = seen.pipes.after.items;
+        })) }
+{
+    let Seen {
+        links,
+        queues,
+        pipes,
+    } = seen;
+    let (before, after) = moments(links.moments, queues, pipes);
+    difference(alloc, happened, &before, &after)
+}
+
 impl Watch {
     /// What is known before the first event.
     pub(crate) fn new(
@@ -165,34 +198,49 @@ impl Watch {
             → Watches g old self.old → Watches g new self.new) }
     {
         let reach = reach_of(world, &turn.event, &found);
+        let seen = self.look_at_parts(world, &turn.event, &found, reach)?;
+        let home = home_in(reach);
+        let arrived = seen.links.arrived.as_slice();
+        let happened = self.describe_event(world, turn, found, home, arrived)?;
+        changed(self.alloc, happened, seen)
+    }
+
+    /// Looks at the links, queues and pipes that an event may have changed, once it is carried out.
+    fn look_at_parts(
+        &mut self,
+        world: &World<'_>,
+        event: &Event,
+        found: &Found,
+        reach: Reach,
+    ) -> Result<Seen, NoMemory>
+        requires { (g : Input) × (old : Log) × (new : Log)
+            × IsOver g old new world.now event.now found.now
+            × (reach ≡ reach_of g new event.now found.now) × Watches g old self.old }
+        ensures seen { IfOk result (λ seen. (g : Input) (old new : Log)
+            → IsOver g old new world.now event.now found.now
+            → reach ≡ reach_of g new event.now found.now → Watches g old self.old
+            → IsSeen g old new seen) }
+        ensures kept { OnOk result ((g : Input) (old new : Log)
+            → IsOver g old new world.now event.now found.now
+            → reach ≡ reach_of g new event.now found.now → Watches g old self.old
+            → HasLooked g old new self.new) }
+    {
         let tms = world.whole().tms();
-        let seen = look_at_links(
-            self.alloc,
-            world,
-            &turn.event,
-            &found,
-            reach,
-            tms,
-            &mut self.links,
-        )?;
-        let OnLinks {
-            moments: links,
-            arrived,
-        } = seen;
+        let links = look_at_links(self.alloc, world, event, found, reach, tms, &mut self.links)?;
         let moved = have_moved(world.history().as_slice(), self.records);
         let queues = look_at_queues(self.alloc, world, moved, reach, &mut self.queues)?;
         let pipes = look_at_pipes(
             self.alloc,
             world,
             reach,
-            arrived.as_slice(),
+            links.arrived.as_slice(),
             &mut self.pipes,
         )?;
-        let home = home_in(reach);
-        let happened = self.describe_event(world, turn, found, home, arrived.as_slice())?;
-        let (before, after) = moments(links, queues, pipes);
-        let delta = difference(self.alloc, happened, &before, &after)?;
-        Ok(delta)
+        Ok(Seen {
+            links,
+            queues,
+            pipes,
+        })
     }
 
     /// What happened at an event that is carried out and gives a transaction, if any, to `home`, where

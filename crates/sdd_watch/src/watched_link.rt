@@ -1,6 +1,6 @@
 //! Links, as they stood when an event was over.
 ghost use Rattle.std.specs.Prelude.{◌≡◌, ◌++◌, ◌∷◌, [], cond, length, IfOk, OnOk};
-ghost use Rattle.sdd_obligations.specs.All.{Input, IsLinkOf, Log, Site as Place};
+ghost use Rattle.sdd_progress.specs.obligations.All.{Input, IsLinkOf, Log, Site as Place};
 ghost use Rattle.sdd_inside.specs.Differences.{is_of_link, takes_one};
 ghost use Rattle.sdd_watch.specs.Awaiting.{behind};
 ghost use Rattle.sdd_watch.specs.Looking.{advanced, arrived_with, seen_with};
@@ -9,8 +9,8 @@ ghost use Rattle.sdd_watch.specs.Watching.{IsOver, is_taken, left_of, seen_betwe
 use crate::places::is_same;
 use crate::waiting::{Purpose, Waiting};
 use sdd_inside::{Found, LinkMoment};
-use sdd_obligations::{Event, Listed, Msg, NoMemory, Packets, Site};
-use sdd_run::World;
+use sdd_progress::{Event, Listed, Msg, NoMemory, Packets, Site};
+use sdd_schedule::World;
 use std::alloc::Global;
 
 /// The messages of a link that were handed over, with their numbers: those that have a purpose.

@@ -2,12 +2,12 @@
 ghost use Rattle.std.specs.Prelude.{◌≡◌, ◌==◌, ◌&&◌, ◌≤◌, ◌++◌, ◌+◌, ◌-◌, ◌∷◌, [], ℕ, cond, false, filter_map, find, length, map, not, IfOk, OnOk};
 ghost use Rattle.std.specs.List.{list_any};
 ghost use Rattle.std.specs.Option.{option_copied};
-ghost use Rattle.sdd_obligations.specs.All.{D, Input, IsSiteOf, Log, dm_no, numbers_to, same_site, time_at};
-ghost use Rattle.sdd_obligations.specs.base.Words.{is_empty};
-ghost use Rattle.sdd_obligations.specs.dm.Due.{or_zero};
-ghost use Rattle.sdd_obligations.specs.pipe.Digest as digest;
-ghost use Rattle.sdd_obligations.specs.pipe.Pipes.{pipe_at};
-ghost use Rattle.sdd_run.specs.world.Represents.{Calm};
+ghost use Rattle.sdd_progress.specs.obligations.All.{D, Input, IsSiteOf, Log, dm_no, numbers_to, same_site, time_at};
+ghost use Rattle.sdd_progress.specs.obligations.base.Words.{is_empty};
+ghost use Rattle.sdd_progress.specs.obligations.dm.Due.{or_zero};
+ghost use Rattle.sdd_progress.specs.obligations.pipe.Digest as digest;
+ghost use Rattle.sdd_progress.specs.obligations.pipe.Pipes.{pipe_at};
+ghost use Rattle.sdd_schedule.specs.world.Represents.{Calm};
 ghost use Rattle.sdd_watch.specs.Awaiting.{number_for};
 ghost use Rattle.sdd_watch.specs.Looking.{ArePipesSeen, messages_in, numbers_for};
 ghost use Rattle.sdd_watch.specs.Moments.{pipes_at_module, source};
@@ -22,8 +22,8 @@ use crate::taking_part::is_reached;
 use crate::waiting::Purpose;
 use crate::watched_link::Arrived;
 use sdd_inside::PipeMoment;
-use sdd_obligations::{Catalogue, ClassNo, DmNo, Listed, NoMemory, Site, Ts};
-use sdd_run::{DataModule, World};
+use sdd_progress::{Catalogue, ClassNo, DmNo, Listed, NoMemory, Site, Ts};
+use sdd_schedule::{DataModule, World};
 use std::alloc::Global;
 
 /// The pipe of a class at a data module, as it stood when the last event was over.

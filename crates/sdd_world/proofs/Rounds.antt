@@ -1,6 +1,7 @@
 -- Rounds and single events, over plain worlds.
-use Rattle.sdd_world.proofs.All.{AllRepresent, AtEach, Before, Boxes, Call, Calm, Carries, D, Down, EndsBy, Event, Happened, Input, OnlyMarksAreDue, IsGood, IsModuleOf, IsPossible, IsSingle, IsSoundNetwork, List, Log, MAX_RUN_EVENTS, Mark, Marked, Msg, Parts, Redeclare, Represent, Represents, Rests, Round, Rounding, Settle, Settling, Site, Some, Spooled, T, TakesRounds, U, Up, World, [], after_mark, all_links, ap, arith, calls_of, each_of_round, event_left, false, few_marks, in_round, lawful_grows, left, links, local_of, lt-ltb, marks, next, none_left, none_to_hand, one_more, quiet, refl, round, round_next, setting_of, still_none, subst, suc, sym, takes_part, with_event, ℕ, ◌++◌, ◌+◌, ◌∙◌, ◌∷◌, ◌≡◌, ◌≢◌, ◌≤◌}
+use Rattle.sdd_world.proofs.All.{AllRepresent, AtEach, Before, Boxes, Call, Calm, Carries, D, Down, EndsBy, Event, Happened, IfOk, Input, OnlyMarksAreDue, IsGood, IsModuleOf, IsPossible, IsSingle, IsSoundNetwork, List, Log, MAX_RUN_EVENTS, Mark, Marked, Msg, Parts, Redeclare, Represent, Represents, Rests, Result, Round, Rounding, Settle, Settling, Site, Some, Spooled, T, TakesRounds, U, Up, World, [], after_mark, all_links, ap, arith, calls_of, each_of_round, event_left, false, few_marks, in_round, lawful_grows, left, links, local_of, lt-ltb, marks, next, none_left, none_to_hand, one_more, quiet, refl, round, round_next, setting_of, still_none, subst, suc, sym, takes_part, with_event, ℕ, ◌++◌, ◌+◌, ◌∙◌, ◌∷◌, ◌≡◌, ◌≢◌, ◌≤◌}
 use Rattle.sdd_world.proofs.Parting.{all_on, spooled_on}
+use Rattle.sdd_world.proofs.Results.{of_ok}
 
 pub single : (g : Input) (e : Event) → IsPossible g e → IsSingle e
 single g Settle p = absurd p
@@ -210,3 +211,19 @@ marked_next w w2 g log e e2 b is left same =
       spooled = subst (λ boxes. Spooled g log boxes U) (sym (ap (λ v. v.spool) same)) b.calm.spooled;
       possible = subst (λ x. IsPossible g x) is b.possible;
     }
+
+-- what carries out an event that has its number, asks and gives what is asked and given before it has one
+
+pub event_asks : (w : World) (e e2 : Event) → e ≡ e2 → w.marks ≢ MAX_RUN_EVENTS → (g : Input) × (log : Log) × Before w g log e
+    → (g : Input) × (log : Log) × Marked (record w { marks = w.marks + 1 }) g log e2
+event_asks w e e2 is left r = (r.0, r.1, marked_next w _ r.0 r.1 e e2 r.2 is left refl)
+
+pub event_happened : {T E : Type 0} (w after : World) (e e2 : Event) (r : Result T E) → e ≡ e2 → w.marks ≢ MAX_RUN_EVENTS
+    → IfOk r (λ _. (g : Input) (log : Log) → Marked (record w { marks = w.marks + 1 }) g log e2 → Happened after g log)
+    → IfOk r (λ _. (g : Input) (log : Log) → Before w g log e → Happened after g log)
+event_happened w after e e2 r is left h = of_ok r _ _ h (λ x f g log b. f g log (marked_next w _ g log e e2 b is left refl))
+
+pub event_ends : (w : World) (e e2 : Event) → e ≡ e2 → w.marks ≢ MAX_RUN_EVENTS
+    → ((g : Input) (log : Log) → Marked (record w { marks = w.marks + 1 }) g log e2 → EndsBy g)
+    → (g : Input) (log : Log) → Before w g log e → EndsBy g
+event_ends w e e2 is left h g log b = h g log (marked_next w _ g log e e2 b is left refl)

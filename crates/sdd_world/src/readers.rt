@@ -39,9 +39,9 @@ impl<'a> World<'a> {
             → IsBegun g whole.now catalogue.now table.now txns modules.items → Represents world g []) }
     {
         whole.law_is_sound();
-        let sites = Sites::new(alloc, whole, catalogue, table, modules)?;
         let net = Mail::new(alloc, whole.tms(), whole.dms())?;
         let spool = Spool::new(alloc, whole.tms(), whole.dms())?;
+        let sites = Sites::new(alloc, whole, catalogue, table, modules)?;
         Ok(World {
             whole,
             catalogue,

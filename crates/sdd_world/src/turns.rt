@@ -28,8 +28,7 @@ impl<'a> World<'a> {
             → EndsBy (with_event g event.now) }
     {
         self.given.push(*event)?;
-        self.apply_event(event)?;
-        Ok(())
+        self.apply_event(event)
     }
 
     /// Adds a `Settle` or a `Redeclare` to the events that were given: rounds are next, until the
@@ -81,8 +80,7 @@ impl<'a> World<'a> {
         ensures limit { IsErrOf result WorldEnd.Limit → (g : Input) (log : Log) (e : Happening)
             (rest : List Happening) → Rounding self.old g log e (event.now ∷ rest) → EndsBy g }
     {
-        self.apply_event(event)?;
-        Ok(())
+        self.apply_event(event)
     }
 
     /// Puts a class list in force with its protocol table, once the rounds of a `Redeclare` are
@@ -106,7 +104,6 @@ impl<'a> World<'a> {
             → IsSettled self.old (with_event g Redeclare) Redeclare
             → EndsBy (with_event g Redeclare) }
     {
-        self.put_in_force(catalogue, table)?;
-        Ok(())
+        self.put_in_force(catalogue, table)
     }
 }

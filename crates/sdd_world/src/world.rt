@@ -89,19 +89,22 @@ impl<'a> World<'a> {
     }
 
     /// Records that the event found nothing to do.
-    fn record_nothing(&mut self) -> Result<(), NoMemory>
+    fn record_nothing(&mut self) -> Result<(), WorldEnd>
         requires { All (λ earlier. earlier.0 ≤ self.old.marks) self.old.history }
         ensures same { OnOk result (self.new ≡ record self.old { history = self.new.history }) }
         ensures history { OnOk result (
             self.new.history ≡ self.old.history ++ (self.old.marks, Rec.Nothing) ∷ []) }
+        ensures limit { IsErrOf result WorldEnd.Limit → ⊥ }
     {
-        self.history.push(self.marks, Rec::Nothing)
+        self.history.push(self.marks, Rec::Nothing)?;
+        Ok(())
     }
 
-    fn lose(&mut self, from: Site, to: Site, place: u32) -> Result<(), NoMemory>
+    fn lose(&mut self, from: Site, to: Site, place: u32) -> Result<(), WorldEnd>
         requires { (g : Input) × (log : Log) × Marked self.old g log (Lose from to place) }
-        ensures { OnOk result ((g : Input) (log : Log) → Marked self.old g log (Lose from to place)
-            → Happened self.new g log) }
+        ensures ok { IfOk result (λ _. (g : Input) (log : Log)
+            → Marked self.old g log (Lose from to place) → Happened self.new g log) }
+        ensures limit { IsErrOf result WorldEnd.Limit → ⊥ }
     {
         if self.net.lose(from, to, place) {
             return Ok(());
@@ -109,10 +112,11 @@ impl<'a> World<'a> {
         self.record_nothing()
     }
 
-    fn repeat(&mut self, from: Site, to: Site, place: u32) -> Result<(), NoMemory>
+    fn repeat(&mut self, from: Site, to: Site, place: u32) -> Result<(), WorldEnd>
         requires { (g : Input) × (log : Log) × Marked self.old g log (Repeat from to place) }
-        ensures { OnOk result ((g : Input) (log : Log) → Marked self.old g log (Repeat from to place)
-            → Happened self.new g log) }
+        ensures ok { IfOk result (λ _. (g : Input) (log : Log)
+            → Marked self.old g log (Repeat from to place) → Happened self.new g log) }
+        ensures limit { IsErrOf result WorldEnd.Limit → ⊥ }
     {
         if self.net.repeat(from, to, place)? {
             return Ok(());
@@ -120,10 +124,11 @@ impl<'a> World<'a> {
         self.record_nothing()
     }
 
-    fn resend(&mut self, from: Site, to: Site) -> Result<(), NoMemory>
+    fn resend(&mut self, from: Site, to: Site) -> Result<(), WorldEnd>
         requires { (g : Input) × (log : Log) × Marked self.old g log (Resend from to) }
-        ensures { OnOk result ((g : Input) (log : Log) → Marked self.old g log (Resend from to)
-            → Happened self.new g log) }
+        ensures ok { IfOk result (λ _. (g : Input) (log : Log)
+            → Marked self.old g log (Resend from to) → Happened self.new g log) }
+        ensures limit { IsErrOf result WorldEnd.Limit → ⊥ }
     {
         if self.net.resend(from, to)? {
             return Ok(());
@@ -170,16 +175,17 @@ impl<'a> World<'a> {
             → Marked self.old g log (Deliver from to place) → EndsBy g }
     {
         match self.net.deliver(from, to, place)? {
-            Delivered::Nothing => Ok(self.record_nothing()?),
+            Delivered::Nothing => self.record_nothing(),
             Delivered::Acked => Ok(()),
             Delivered::Messages(messages) => self.receive(from, to, messages),
         }
     }
 
-    fn go_down(&mut self, at: Site) -> Result<(), NoMemory>
+    fn go_down(&mut self, at: Site) -> Result<(), WorldEnd>
         requires { (g : Input) × (log : Log) × Marked self.old g log (Down at) }
-        ensures { OnOk result ((g : Input) (log : Log) → Marked self.old g log (Down at)
-            → Happened self.new g log) }
+        ensures ok { IfOk result (λ _. (g : Input) (log : Log)
+            → Marked self.old g log (Down at) → Happened self.new g log) }
+        ensures limit { IsErrOf result WorldEnd.Limit → ⊥ }
     {
         if self.spool.down(at) {
             return Ok(());
@@ -229,7 +235,7 @@ impl<'a> World<'a> {
             → Marked self.old g log (Up at) → EndsBy g }
     {
         if !self.spool.up(at) {
-            return Ok(self.record_nothing()?);
+            return self.record_nothing();
         }
         self.resume(at)?;
         self.hand_kept(at)
@@ -275,14 +281,14 @@ impl<'a> World<'a> {
         match event {
             Event::Submit(number) => self.submit(*number),
             Event::Deliver { from, to, place } => self.deliver(*from, *to, *place),
-            Event::Lose { from, to, place } => Ok(self.lose(*from, *to, *place)?),
-            Event::Repeat { from, to, place } => Ok(self.repeat(*from, *to, *place)?),
-            Event::Resend { from, to } => Ok(self.resend(*from, *to)?),
+            Event::Lose { from, to, place } => self.lose(*from, *to, *place),
+            Event::Repeat { from, to, place } => self.repeat(*from, *to, *place),
+            Event::Resend { from, to } => self.resend(*from, *to),
             Event::Tick { tm, n } => {
                 self.tick(*tm, *n);
                 Ok(())
             }
-            Event::Down(at) => Ok(self.go_down(*at)?),
+            Event::Down(at) => self.go_down(*at),
             Event::Up(at) => self.come_up(*at),
             Event::Settle | Event::Redeclare => Ok(()),
         }

@@ -1,8 +1,7 @@
-use Rattle.std.proofs.Common.{Err, Ok}
 use Rattle.std.proofs.lemmas.Result.{err_from_is_err_and}
 use Rattle.sdd_shell.proofs.Requests.{workload_answers, workload_first_refused, workload_second_refused}
-use Rattle.sdd_watch.specs.run.Runs.{EndsAtLimit}
-use Rattle.sdd_watch.specs.Text.{IsInsideOf}
+use Rattle.sdd_run.specs.Runs.{EndsAtLimit}
+use Rattle.sdd_app_inside.specs.Text.{IsInsideOf}
 use Rattle.sdd_app_inside.proofs.inside.inside_answer.Goals as goal
 
 pub returns-in_err-catalogue : goal.returns-in_err-catalogue
@@ -18,14 +17,7 @@ returns-in_err-work g c =
     (workload_second_refused c.args.catalogue.now c.args.workload.now IsInsideOf EndsAtLimit _ _ _ c.in_ok-catalogue.catalogue c.in_err-work.field-0.0
     c.in_ok-catalogue.ensures c.in_err-work.ensures.accepts)
 
-pub returns-in_err-text : goal.returns-in_err-text
-returns-in_err-text g c =
-    let p = err_from_is_err_and c.from_residual-in_err-text.result c.from_residual-in_err-text.ensures.1 in
-    rw (p.1, p.2)
-    (workload_answers c.args.catalogue.now c.args.workload.now IsInsideOf EndsAtLimit _ _ _ c.in_ok-catalogue.catalogue c.in_ok-work.work (Err c.in_err-text.field-0.0)
-    c.in_ok-catalogue.ensures c.in_ok-work.ensures.accepts c.in_err-text.ensures)
-
 pub returns : goal.returns
 returns g c =
-    workload_answers c.args.catalogue.now c.args.workload.now IsInsideOf EndsAtLimit _ _ _ c.in_ok-catalogue.catalogue c.in_ok-work.work (Ok c.in_ok-text.text)
-    c.in_ok-catalogue.ensures c.in_ok-work.ensures.accepts c.in_ok-text.ensures
+    workload_answers c.args.catalogue.now c.args.workload.now IsInsideOf EndsAtLimit _ _ _ c.in_ok-catalogue.catalogue c.in_ok-work.work c.inside_pages.result
+    c.in_ok-catalogue.ensures c.in_ok-work.ensures.accepts c.inside_pages.ensures

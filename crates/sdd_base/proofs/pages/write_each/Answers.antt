@@ -1,3 +1,4 @@
+use Rattle.std.proofs.lemmas.Grind.{common_steps}
 use Rattle.sdd_base.proofs.All.{arith, length, subst, take, ◌-◌, ◌∙◌}
 use Rattle.sdd_base.proofs.Paging.{front_taken, joined, on_err, page_left, pages_taken, room_left}
 use Rattle.sdd_base.proofs.pages.write_each.Goals as goal
@@ -46,3 +47,9 @@ pages-preserved g c =
           let rest = room - length (joined (take i pages)) in
           (subst (g.O.Sink.sure c.write_text.new.out) same (e.room rest left before.0), (e.surely rest left before.0).1 ∙ before.1);
     }
+
+pub returns-clause-done : goal.returns-clause-done
+returns-clause-done g c = grind (arith, common_steps)
+
+pub returns-clause-room : goal.returns-clause-room
+returns-clause-room g c = grind (arith, common_steps)

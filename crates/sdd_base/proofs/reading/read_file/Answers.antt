@@ -1,3 +1,4 @@
+use Rattle.std.proofs.lemmas.Grind.{common_steps}
 use Rattle.sdd_base.proofs.All.{ap, arith, length, with_front, ◌<◌, ◌∙◌}
 use Rattle.sdd_base.proofs.Taken.{ended, none_taken, read_through, reads_to}
 use Rattle.sdd_base.proofs.reading.read_file.Goals as goal
@@ -37,3 +38,6 @@ returns-clause-ended g c = (
       c.in-Ok.ensures.opens.named c.in-Ok.ensures.opens.whole c.fill.invariant.unread
       (omega (arith, c.fill.invariant.within)) (λ within. absurd (omega arith)),
 )
+
+pub fill-preserved : goal.fill-preserved
+fill-preserved g c = grind (arith, common_steps)

@@ -1,3 +1,4 @@
+use Rattle.std.proofs.lemmas.Grind.{common_steps}
 use Rattle.sdd_base.proofs.All.{arith, drop, length, subst, ◌+◌, ◌-◌, ◌∙◌, ◌≡◌, ◌≤◌}
 use Rattle.sdd_base.proofs.Taken.{with_end-take}
 use Rattle.sdd_base.proofs.writing.write_text.Goals as goal
@@ -16,3 +17,6 @@ put-preserved g c =
           let same : (room - c.put.at) - c.in_ok-n.n ≡ room - (c.put.at + c.in_ok-n.n) = omega arith in
           (subst (g.O.Sink.sure c.write.new.self) same (e.room (room - c.put.at) before.0), (e.surely (room - c.put.at) left before.0).1 ∙ before.1);
     }
+
+pub returns-clause-done : goal.returns-clause-done
+returns-clause-done g c = grind (arith, common_steps)

@@ -1,3 +1,5 @@
+use Rattle.std.proofs.Common.{arith}
+use Rattle.std.proofs.lemmas.Grind.{common_steps}
 use Rattle.sdd_catalog.proofs.All.{FragmentPart, Parts, ap, fragment_names, length, length-map, refl, sym, take_more, write_rules, ◌∙◌}
 use Rattle.sdd_catalog.proofs.Firsts.{found_here, found_later}
 use Rattle.sdd_catalog.proofs.Marking.{no_marks}
@@ -31,3 +33,6 @@ pub returns-in-Some : goal.returns-in-Some
 returns-in-Some c =
     found_here (write_rules c.args.parts.now) _ _ _ _ c.loop-index.invariant.rest c.index-writes-index.is c.loop-index-test.true
     (c.in-Some.ensures.rule _ c.loop-index.invariant.marks)
+
+pub returns : goal.returns
+returns c = grind (arith, common_steps)

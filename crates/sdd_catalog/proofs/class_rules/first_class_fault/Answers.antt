@@ -1,3 +1,5 @@
+use Rattle.std.proofs.Common.{arith}
+use Rattle.std.proofs.lemmas.Grind.{common_steps}
 use Rattle.sdd_catalog.proofs.All.{faults_of_class, sym, ◌∙◌}
 use Rattle.sdd_catalog.proofs.Firsts.{found_here}
 use Rattle.sdd_catalog.proofs.class_rules.first_class_fault.Goals as goal
@@ -5,3 +7,9 @@ use Rattle.sdd_catalog.proofs.class_rules.first_class_fault.Goals as goal
 pub returns-in-Some : goal.returns-in-Some
 returns-in-Some c =
     found_here (faults_of_class c.args.parts.now) _ _ _ _ c.loop-index.invariant.rest c.index-classes-index.is c.loop-index-test.true (sym c.in-Some.is ∙ c.in_ok-fault.ensures)
+
+pub loop-index-preserved : goal.loop-index-preserved
+loop-index-preserved c = grind (arith, common_steps)
+
+pub returns : goal.returns
+returns c = grind (arith, common_steps)

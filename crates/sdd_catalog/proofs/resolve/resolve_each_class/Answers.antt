@@ -7,3 +7,6 @@ loop-class-preserved c =
       value = grind (arith, common_steps);
       named = rw c.in_ok-push.ensures.items (All-push (λ (c : Class). IsName c.name) _ _ c.loop-class.invariant.named c.in_ok-resolve_class.ensures.named);
     }
+
+pub returns-clause-value : goal.returns-clause-value
+returns-clause-value c = grind (arith, common_steps)

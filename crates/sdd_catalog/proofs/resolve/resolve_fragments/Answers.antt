@@ -8,3 +8,6 @@ loop-fragment-preserved c =
       named = rw c.in_ok-push.ensures.items
           (All-push (λ (f : Fragment). IsName f.name) _ _ c.loop-fragment.invariant.named c.in_ok-resolve_fragment.ensures.named);
     }
+
+pub returns-clause-value : goal.returns-clause-value
+returns-clause-value c = grind (arith, common_steps)

@@ -3,9 +3,9 @@ use Rattle.sdd_inside_laws.proofs.OwnNames.{own_names}
 use Rattle.sdd_inside_laws.proofs.RunRead.{good_run, of_inside}
 use Rattle.sdd_inside_laws.proofs.SmallLines.{small_lines}
 use Rattle.sdd_inside_laws.proofs.law.law_read_text.Goals as goal
-use Rattle.sdd_watch.proofs.run.class_lists.WholeSound.{whole_named, whole_sound}
-use Rattle.sdd_watch.specs.run.Runs.{input}
-use Rattle.sdd_watch.specs.run.class_lists.InForce.{whole_in}
+use Rattle.sdd_app_inside.proofs.run.class_lists.WholeSound.{whole_named, whole_sound}
+use Rattle.sdd_app_inside.specs.run.Runs.{input}
+use Rattle.sdd_app_inside.specs.run.class_lists.InForce.{whole_in}
 
 pub returns : goal.returns
 returns g cat work text sound named valid i =

@@ -8,3 +8,6 @@ loop-cond-preserved c =
       | in-Some+in_ok-push-in-Some w ↦ grind (arith, common_steps, filter_map-append)
       | in-None w ↦ grind (arith, common_steps, filter_map-append)
     ]
+
+pub returns : goal.returns
+returns c = grind (arith, common_steps)

@@ -1,3 +1,5 @@
+use Rattle.std.proofs.Common.{arith}
+use Rattle.std.proofs.lemmas.Grind.{common_steps}
 use Rattle.sdd_links.proofs.All.{Committed, List, attempts, committed_of, filter_map, placed, subst, sym, take, ◌+◌, ◌∙◌, ◌≡◌}
 use Rattle.sdd_links.proofs.Reading.{one_made, none_made}
 use Rattle.sdd_links.proofs.attempts.find_committed.Goals.{in-Some+in_ok-push, in_default}
@@ -22,3 +24,6 @@ loop-place-preserved c =
           subst (λ m. Now m.items) (sym w.made-is)
           (none_made (committed_of all) h i e old within there (sym is ∙ w.in_default.is) c.loop-place.invariant)
     ]
+
+pub returns : goal.returns
+returns c = grind (arith, common_steps)

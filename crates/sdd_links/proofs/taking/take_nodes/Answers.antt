@@ -1,3 +1,4 @@
+use Rattle.std.proofs.lemmas.Grind.{common_steps}
 use Rattle.sdd_links.proofs.All.{All, All-get_or, All-head, All-tail, Front, [], ap, arith, fold, get_or as slice_index_or, length, released, subst, suc, sym, taking, ℕ, ◌+◌, ◌-◌, ◌<◌, ◌∙◌, ◌∷◌, ◌≡◌}
 use Rattle.sdd_links.proofs.Steps.{taking_more, taken_more, taken_all, released_below, nothing_in}
 use Rattle.sdd_links.proofs.taking.take_nodes.Goals as goal
@@ -36,3 +37,6 @@ loop-preserved c =
       nodes = subst (λ (f : Front). All (λ i. i < bound) f.1) (sym is) below;
       same = c.in_ok-release-in-Some.ensures.same ∙ c.loop.invariant.same;
     }
+
+pub release-requires : goal.release-requires
+release-requires c = grind (arith, common_steps)

@@ -1,5 +1,5 @@
 use Rattle.sdd_progress.proofs.All.{arith, redeclares}
-use Rattle.sdd_progress.proofs.Copies.{applied_at_copies, serial_copies}
+use Rattle.sdd_progress.proofs.CopiesAtEnd.{applied_at_copies, serial_copies}
 use Rattle.sdd_progress.proofs.NoneWaits.{is_idle}
 use Rattle.sdd_progress.proofs.OwnCopies.{own_copy}
 use Rattle.sdd_progress.proofs.law.law_copies.Goals as goal

@@ -1,5 +1,5 @@
 use Rattle.std.proofs.lemmas.Grind.{common_steps}
-use Rattle.sdd_running.proofs.All.{arith, dm_no}
+use Rattle.sdd_running.proofs.All.{arith, dm_no, refl}
 use Rattle.sdd_running.proofs.Reading.{module_more, sent_more}
 use Rattle.sdd_running.proofs.reads.send_reads_to.Goals as goal
 
@@ -9,10 +9,10 @@ loop-dm-preserved c =
     let dms = c.args.dms.now in
     let i = c.loop-dm.dm-index in
     record {
-      draft = sent_more b dms i
-          (dm_no 0) c.in_ok-read.read c.args.draft.now c.loop-dm.draft c.send.new.self c.loop-dm-test.true c.in_ok-read.ensures c.loop-dm.invariant.draft c.in_ok-send.ensures;
-      modules = module_more b dms i
-          (dm_no 0) c.in_ok-read.read c.loop-dm.modules c.add.new.self c.loop-dm-test.true c.in_ok-read.ensures c.loop-dm.invariant.modules c.in_ok-add.ensures;
+      draft = sent_more b dms i (dm_no 0) _ c.args.draft.now c.loop-dm.draft c.send_read.new.draft c.loop-dm-test.true refl c.loop-dm.invariant.draft
+          c.in_ok-send_read.ensures.draft;
+      modules = module_more b dms i (dm_no 0) _ c.loop-dm.modules c.send_read.new.modules c.loop-dm-test.true refl c.loop-dm.invariant.modules
+          c.in_ok-send_read.ensures.modules;
     }
 
 pub returns-clause-draft : goal.returns-clause-draft

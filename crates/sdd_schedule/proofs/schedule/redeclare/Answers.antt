@@ -1,3 +1,5 @@
+use Rattle.std.proofs.Common.{arith}
+use Rattle.std.proofs.lemmas.Grind.{common_steps}
 use Rattle.sdd_schedule.proofs.All.{Redeclare, ap, handed_on, lists_after, refl, sym, with_event}
 use Rattle.sdd_schedule.proofs.Carrying.{next_list}
 use Rattle.sdd_schedule.proofs.RoundsFollowed.{list_followed, list_to_follow}
@@ -60,3 +62,6 @@ returns-clause-log t c = λ g0 log h a.
 
 pub returns-clause-others : goal.returns-clause-others
 returns-clause-others t c = sym (ap (lists_after Redeclare) c.in-Some.ensures.items)
+
+pub unreachable-requires : goal.unreachable-requires
+unreachable-requires g c = grind (arith, common_steps)

@@ -1,3 +1,5 @@
+use Rattle.std.proofs.Common.{arith}
+use Rattle.std.proofs.lemmas.Grind.{elements}
 use Rattle.sdd_sites.proofs.All.{get-set_other}
 use Rattle.sdd_sites.proofs.TxnModules.{queued_in}
 use Rattle.sdd_sites.proofs.sites.queue_in.Goals as goal
@@ -10,3 +12,9 @@ returns-clause-law c =
 
 pub returns-clause-others : goal.returns-clause-others
 returns-clause-others c = λ k ne. get-set_other c.args.modules.now.items c.args.at k c.queue_in_class.new.self ne
+
+pub queue_in_class-requires-clause-lives : goal.queue_in_class-requires-clause-lives
+queue_in_class-requires-clause-lives c = grind (arith, elements)
+
+pub queue_in_class-requires-clause-queues : goal.queue_in_class-requires-clause-queues
+queue_in_class-requires-clause-queues c = grind (arith, elements)

@@ -1,3 +1,5 @@
+use Rattle.std.proofs.Common.{arith}
+use Rattle.std.proofs.lemmas.Grind.{elements}
 use Rattle.sdd_sites.proofs.All.{get-set_other}
 use Rattle.sdd_sites.proofs.ByTable.{submitted_in}
 use Rattle.sdd_needs.specs.tm.Due as tm
@@ -12,3 +14,9 @@ returns-clause-law c = submitted_in (λ t. t.live) tm_represents.Represents tm.n
 
 pub returns-clause-others : goal.returns-clause-others
 returns-clause-others c = λ k ne. get-set_other c.args.modules.now.items c.args.at k c.submit_in_class.new.self ne
+
+pub submit_in_class-requires-clause-lives : goal.submit_in_class-requires-clause-lives
+submit_in_class-requires-clause-lives c = grind (arith, elements)
+
+pub submit_in_class-requires-clause-represents : goal.submit_in_class-requires-clause-represents
+submit_in_class-requires-clause-represents c = grind (arith, elements)

@@ -1,3 +1,5 @@
+use Rattle.std.proofs.Common.{arith}
+use Rattle.std.proofs.lemmas.Grind.{common_steps}
 use Rattle.sdd_wire.proofs.Items.{put_more, all_more}
 use Rattle.sdd_wire.proofs.lists.put_items.Goals as goal
 
@@ -11,3 +13,9 @@ items-preserved g c =
       fits = all_more g.T.Spelled.fits c.args.items.now c.items.item-index c.item-item.result
           c.items-test.true c.item-item.is before.fits put.fits;
     }
+
+pub returns-clause-fits : goal.returns-clause-fits
+returns-clause-fits g c = grind (arith, common_steps)
+
+pub returns-clause-spelling : goal.returns-clause-spelling
+returns-clause-spelling g c = grind (arith, common_steps)

@@ -1,3 +1,5 @@
+use Rattle.std.proofs.Common.{arith}
+use Rattle.std.proofs.lemmas.Grind.{common_steps}
 use Rattle.sdd_base.proofs.All.{Failing, FailingShelf, ap, ◌∙◌, ◌≡◌}
 use Rattle.sdd_base.proofs.memory_shelf.MemShelfShelf.read.Goals as goal
 
@@ -9,3 +11,6 @@ returns-clause-surely c = λ free sure.
     ∙ ap (λ (f : Failing). f.fails) failing in
     let inner = rw shelf at (c.read.ensures.surely free (rw shelf sure.1)) in
     (inner.0, (unlisted ∙ sure.0, inner.1), inner.2)
+
+pub returns-clause-gives : goal.returns-clause-gives
+returns-clause-gives c = grind (arith, common_steps)

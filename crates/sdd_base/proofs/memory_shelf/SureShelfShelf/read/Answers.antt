@@ -1,3 +1,5 @@
+use Rattle.std.proofs.Common.{arith}
+use Rattle.std.proofs.lemmas.Grind.{common_steps}
 use Rattle.sdd_base.proofs.All.{map, opened_at}
 use Rattle.sdd_base.proofs.Opened.{reads, length-opened, Reads}
 use Rattle.sdd_base.proofs.memory_shelf.SureShelfShelf.read.Goals as goal
@@ -27,3 +29,6 @@ returns-clause-open c = (read_opened c).stays
 
 pub returns-clause-count : goal.returns-clause-count
 returns-clause-count c = (read_opened c).count
+
+pub returns-clause-surely : goal.returns-clause-surely
+returns-clause-surely c = grind (arith, common_steps)

@@ -1,3 +1,5 @@
+use Rattle.std.proofs.Common.{arith}
+use Rattle.std.proofs.lemmas.Grind.{common_steps}
 use Rattle.sdd_links.proofs.All.{List, groups, subst, sym, take, ℕ, ◌+◌, ◌∙◌, ◌≡◌}
 use Rattle.sdd_links.proofs.Grouped.{groups_next, groups_past}
 use Rattle.sdd_links.proofs.groups.Groups.of.Goals.{then-key-count+in_ok-add, else-key-count}
@@ -17,3 +19,6 @@ loop-key-preserved c =
       | else-key-count w ↦
           subst Now (sym w.made-is) (c.loop-key.invariant ∙ groups_past pairs count i (0, 0) c.loop-key-test.true w.if-key-count.false)
     ]
+
+pub returns : goal.returns
+returns c = grind (arith, common_steps)

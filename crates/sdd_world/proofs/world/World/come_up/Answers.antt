@@ -3,7 +3,7 @@ use Rattle.sdd_world.proofs.Marking.{order_of}
 use Rattle.sdd_world.proofs.Keeping.{placed}
 use Rattle.sdd_world.proofs.Rising.{came_up}
 use Rattle.sdd_world.proofs.Turning.{rises, wasnt_down}
-use Rattle.sdd_world.proofs.Results.{of_ok as map_ok}
+use Rattle.sdd_world.proofs.Results.{both_ok, of_ok as map_ok}
 use Rattle.sdd_world.proofs.world.World.come_up.Goals as goal
 
 pub up-requires : goal.up-requires
@@ -30,14 +30,17 @@ hand_kept-requires c =
     (r.0, k.more, k.handing, k.rising)
 
 pub returns-then-not-up-clause-ok : goal.returns-then-not-up-clause-ok
-returns-then-not-up-clause-ok c = λ given log m.
+returns-then-not-up-clause-ok c = both_ok c.record_nothing.result _ _ _ c.record_nothing.ensures.same c.record_nothing.ensures.history (λ same noted given log m.
     wasnt_down c.args.self.now (record c.args.self.now { spool = c.up.new.self }) c.record_nothing.new.self given log c.args.at c.up.result m
     c.up.ensures.turned (record { mailbox = c.up.ensures.mailbox; others = c.up.ensures.others }) c.if-not-up.true
-    refl c.in_ok-record_nothing.ensures.same c.in_ok-record_nothing.ensures.history
+    refl same noted)
+
+pub returns-then-not-up-clause-limit : goal.returns-then-not-up-clause-limit
+returns-then-not-up-clause-limit c = λ e. absurd (c.record_nothing.ensures.limit e)
 
 pub returns-in_err-resume-clause-limit : goal.returns-in_err-resume-clause-limit
 returns-in_err-resume-clause-limit c = λ e given log m.
-    c.in_err-resume.ensures.limit (handed_on c.from_residual-in_err-resume.result c.in_err-resume.field-0.0 c.from_residual-in_err-resume.ensures.1 e) given log
+    c.in_err-resume.ensures.limit (handed_on c.from_residual.result c.in_err-resume.field-0.0 c.from_residual.ensures.1 e) given log
     (rises c.args.self.now (record c.args.self.now { spool = c.up.new.self }) given log c.args.at c.up.result m
     c.up.ensures.turned (record { mailbox = c.up.ensures.mailbox; others = c.up.ensures.others }) c.if-not-up.false refl)
 

@@ -1,7 +1,7 @@
 use Rattle.sdd_world.proofs.All.{Deliver, refl}
 use Rattle.sdd_world.proofs.Marking.{order_of}
 use Rattle.sdd_world.proofs.Delivering.{arrives, got_ack, got_nothing}
-use Rattle.sdd_world.proofs.Results.{of_ok as map_ok}
+use Rattle.sdd_world.proofs.Results.{both_ok, of_ok as map_ok}
 use Rattle.sdd_world.proofs.world.World.deliver.Goals as goal
 
 pub record_nothing-requires : goal.record_nothing-requires
@@ -19,12 +19,15 @@ receive-requires c =
           refl,
     )
 
-pub returns-in_ok-record_nothing-in-Nothing-clause-ok : goal.returns-in_ok-record_nothing-in-Nothing-clause-ok
-returns-in_ok-record_nothing-in-Nothing-clause-ok c = λ given log m.
+pub returns-in-Nothing-clause-ok : goal.returns-in-Nothing-clause-ok
+returns-in-Nothing-clause-ok c = both_ok c.record_nothing.result _ _ _ c.record_nothing.ensures.same c.record_nothing.ensures.history (λ same noted given log m.
     got_nothing c.args.self.now
     c.record_nothing.new.self c.deliver.new.self given log c.args.from c.args.to c.args.place
     c.in_ok-deliver.field-0 m c.in_ok-deliver.ensures.given c.in_ok-deliver.ensures.ok c.in-Nothing.is
-    c.in_ok-record_nothing-in-Nothing.ensures.same c.in_ok-record_nothing-in-Nothing.ensures.history
+    same noted)
+
+pub returns-in-Nothing-clause-limit : goal.returns-in-Nothing-clause-limit
+returns-in-Nothing-clause-limit c = λ e. absurd (c.record_nothing.ensures.limit e)
 
 pub returns-in-Acked-clause-ok : goal.returns-in-Acked-clause-ok
 returns-in-Acked-clause-ok c = λ given log m.

@@ -1,3 +1,5 @@
+use Rattle.std.proofs.Common.{arith}
+use Rattle.std.proofs.lemmas.Grind.{elements}
 use Rattle.sdd_world.proofs.All.{AreCommitted, history, pending_at_last, subst, ◌∙◌}
 use Rattle.sdd_world.proofs.Lists.{chosen_more}
 use Rattle.sdd_world.proofs.world.World.pending.Goals as goal
@@ -10,3 +12,6 @@ loop-entry-preserved c = λ given log s.
     c.loop-entry-test.true c.entry-item.is
     (c.in_ok-add_pending.ensures given log (history log) s (subst (AreCommitted c.in_ok-committed.committed) is c.in_ok-committed.ensures))
     (c.loop-entry.invariant given log s)
+
+pub returns : goal.returns
+returns c = grind (arith, elements)

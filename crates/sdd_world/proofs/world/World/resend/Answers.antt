@@ -1,17 +1,21 @@
-use Rattle.sdd_world.proofs.All.{Resend, on_ok, refl}
+use Rattle.sdd_world.proofs.All.{Resend, refl}
+use Rattle.sdd_world.proofs.Results.{both_ok}
 use Rattle.sdd_world.proofs.Marking.{resent, resent_nothing, order_of}
 use Rattle.sdd_world.proofs.world.World.resend.Goals as goal
 
-pub returns-then-branch : goal.returns-then-branch
-returns-then-branch c = λ given log m. resent c.args.self.now (record c.args.self.now { net = c.resend.new.self }) given log
+pub returns-then-branch-clause-ok : goal.returns-then-branch-clause-ok
+returns-then-branch-clause-ok c = λ given log m. resent c.args.self.now (record c.args.self.now { net = c.resend.new.self }) given log
     c.args.from c.args.to c.in_ok-resend.field-0 m c.in_ok-resend.ensures.some c.in_ok-resend.ensures.ok
     c.if-branch.true refl
 
 pub record_nothing-requires : goal.record_nothing-requires
 record_nothing-requires c = let r = c.requires in order_of c.args.self.now r.0 r.1 (Resend c.args.from c.args.to) r.2
 
-pub returns : goal.returns
-returns c = on_ok c.record_nothing.result _ _ _ c.record_nothing.ensures.same c.record_nothing.ensures.history (λ same noted given log m.
+pub returns-clause-ok : goal.returns-clause-ok
+returns-clause-ok c = both_ok c.record_nothing.result _ _ _ c.record_nothing.ensures.same c.record_nothing.ensures.history (λ same noted given log m.
     resent_nothing c.args.self.now
     c.record_nothing.new.self c.resend.new.self given log c.args.from c.args.to c.in_ok-resend.field-0 m
     c.in_ok-resend.ensures.some c.in_ok-resend.ensures.ok c.if-branch.false same noted)
+
+pub returns-clause-limit : goal.returns-clause-limit
+returns-clause-limit c = c.record_nothing.ensures.limit

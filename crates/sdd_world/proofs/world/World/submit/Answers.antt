@@ -1,3 +1,5 @@
+use Rattle.std.proofs.Common.{arith}
+use Rattle.std.proofs.lemmas.Grind.{elements}
 use Rattle.sdd_world.proofs.All.{false, true}
 use Rattle.sdd_world.proofs.Submitting.{events_order, given, may_send, part_here, queue_asks, queued, submit_asks, submit_done, submit_ends, taken, there, txn_fits, txn_read}
 use Rattle.sdd_world.proofs.Results.{of_ok as map_ok}
@@ -109,3 +111,6 @@ returns-clause-limit c = λ e g log m.
     c.in_ok-outcome-2.outcome t.home part c.in_ok-outcome-2.ensures.law in
     submit_ends c.args.self.now g log c.args.number m c.index-as_slice-number.result t.is c.queue.new.self c.home_in-at.result
     c.in_ok-outcome-2.outcome t.home did (c.follow-2.ensures.limit e)
+
+pub bounds-as_slice-number : goal.bounds-as_slice-number
+bounds-as_slice-number c = grind (arith, elements)

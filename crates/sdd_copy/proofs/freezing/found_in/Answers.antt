@@ -1,0 +1,9 @@
+use Rattle.std.proofs.Common.{arith}
+use Rattle.std.proofs.lemmas.Grind.{common_steps}
+use Rattle.sdd_copy.proofs.freezing.found_in.Goals as goal
+
+pub loop-frag-preserved : goal.loop-frag-preserved
+loop-frag-preserved c = grind (arith, common_steps)
+
+pub returns : goal.returns
+returns c = grind (arith, common_steps)

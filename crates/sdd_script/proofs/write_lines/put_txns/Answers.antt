@@ -1,0 +1,9 @@
+use Rattle.std.proofs.Common.{arith}
+use Rattle.std.proofs.lemmas.Grind.{common_steps}
+use Rattle.sdd_script.proofs.write_lines.put_txns.Goals as goal
+
+pub returns : goal.returns
+returns c = grind (arith, common_steps)
+
+pub txns-preserved : goal.txns-preserved
+txns-preserved c = grind (arith, common_steps)

@@ -1,0 +1,6 @@
+use Rattle.std.proofs.Common.{arith}
+use Rattle.std.proofs.lemmas.Grind.{common_steps}
+use Rattle.sdd_wire.proofs.values.TextSpelled.put.Goals as goal
+
+pub returns-clause-spelling : goal.returns-clause-spelling
+returns-clause-spelling c = grind (arith, common_steps)
