@@ -9,7 +9,8 @@ through what libraries pass on (`pub use .. as ..` in Lib.antt), and each name i
 constructor, a field, or a name that is passed on. What the prover makes itself (goals, declared types) is left out.
 
 Said too is where a file names a crate that its own doesn't name in crates.txt, where files of a crate take names from each
-other in a circle, and where an answer to a goal has another name than the goal, as after a clause was renamed.
+other in a circle, where an answer to a goal has another name than the goal, as after a clause was renamed, and where answers
+stand in the folder of another function than theirs, as after a merge that took a new file for one that was moved.
 """
 import os
 import re
@@ -27,6 +28,7 @@ DEFINES = re.compile(r"^\s*(?:(?:pub|abbrev|unfoldable|data|record) )*([^\s:({]+
 MADE = {"declared", "Goals", "Given", "Steps"}
 NAMED = re.compile(r"\bRattle\.(sdd_\w+)\.(?:specs|proofs)\b")
 ANSWERS = re.compile(r"^pub (\S+) : goal\.(\S+)$", re.M)
+OF_FUNCTION = re.compile(r"^use Rattle\.(\S+)\.(?:Goals|Given) as goal$", re.M)
 
 
 def text_of(path):
@@ -106,6 +108,14 @@ def misnamed(file):
             yield "%s: %s answers the goal %s" % (os.path.relpath(file, ROOT), name, goal)
 
 
+def displaced(file):
+    """Where the goals of a file are those of a function in whose folder it doesn't stand."""
+    own = os.path.dirname(os.path.relpath(file, CRATES)).replace(os.sep, ".")
+    for function in OF_FUNCTION.findall(text_of(file)):
+        if function != own:
+            yield "%s: answers goals of %s" % (os.path.relpath(file, ROOT), function)
+
+
 def circles(homes, all_files):
     """Of each circle of files of a crate that take names from each other, the file at which it closes."""
     taken = {file: {homes.file_of(path) for path, _ in TAKES.findall(text_of(file)) if path.split(".")[0] == crate_of(file)}
@@ -131,7 +141,7 @@ def all_wrong():
     """All that is wrong, a line each."""
     homes, all_files = Homes(), list(files())
     named = read_crates(os.path.join(ROOT, "crates.txt"))
-    found = [it for file in all_files for it in [*missing(homes, file), *unnamed(named, file), *misnamed(file)]]
+    found = [it for file in all_files for it in [*missing(homes, file), *unnamed(named, file), *misnamed(file), *displaced(file)]]
     return [*found, *circles(homes, all_files)]
 
 
