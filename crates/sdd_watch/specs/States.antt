@@ -8,7 +8,7 @@ use Rattle.sdd_schedule.specs.world.exchange.declared.answer.Answer.{Answer}
 use Rattle.sdd_schedule.specs.world.exchange.declared.answer.Answer.TheVariants as answers
 use Rattle.sdd_progress.specs.obligations.site_module.SiteLog as site
 use Rattle.sdd_progress.specs.obligations.umod.Standing.{is_asked_to_hold, unheld_by}
-use Rattle.sdd_schedule.specs.world.u_module.Steps.{is_kept_on_hold}
+use Rattle.sdd_counts.specs.Counts.{is_kept_on_hold}
 use Rattle.sdd_progress.specs.obligations.umod.Views.{turn}
 use Rattle.sdd_inside.specs.declared.standing.Active.{Active}
 use Rattle.sdd_inside.specs.declared.standing.DmState.{DmState}
