@@ -1,57 +1,57 @@
 -- The names of std, of the crates below and of this crate's definitions that its proofs cite. Declares nothing.
 pub use Rattle.sdd_acyclic.proofs.EachTable.{each_table}
-pub use Rattle.sdd_obligations.proofs.needs.Done.{count_join, done}
-pub use Rattle.sdd_obligations.proofs.Linking.{lawful_part as lawful_before}
-pub use Rattle.sdd_obligations.proofs.base.Membership.{Contains-cases, Contains-here, Contains-later, Contains-nil}
-pub use Rattle.sdd_obligations.proofs.invariants.Bools.{neither_left, neither_right}
-pub use Rattle.sdd_obligations.proofs.invariants.Made.{permitted_before}
-pub use Rattle.sdd_obligations.proofs.invariants.Places.{compare}
-pub use Rattle.sdd_obligations.proofs.invariants.logs.NewMarks.{marks_round as round_from}
-pub use Rattle.sdd_obligations.proofs.lang.SortedEntries.{each_inserted, each_left, item_cmp_exact}
-pub use Rattle.sdd_obligations.proofs.lang.StaysDatabase.{rows_make_database}
-pub use Rattle.sdd_obligations.proofs.laws.Members.{Contains-from_filter, all_have as all_by_member}
-pub use Rattle.sdd_obligations.proofs.laws.Orders.{agrees, listed}
-pub use Rattle.sdd_obligations.proofs.laws.Recorded.{are_recorded, ledger}
-pub use Rattle.sdd_obligations.proofs.laws.Run.{replayed}
-pub use Rattle.sdd_obligations.proofs.laws.lang.Sets.{each_filtered as kept_hold}
-pub use Rattle.sdd_obligations.proofs.laws.serial_orders.InOrder.{each as at_each}
-pub use Rattle.sdd_obligations.proofs.laws.links.Members.{All-members as all_members}
-pub use Rattle.sdd_obligations.proofs.logs.AsLists.{next_mark_is}
-pub use Rattle.sdd_obligations.proofs.logs.NewMarks.{lawful_permitted, left_is, marked}
-pub use Rattle.sdd_obligations.proofs.net.Lists.{All-at}
-pub use Rattle.sdd_obligations.specs.All.{AllFewTicks, Answer, Apply, AreSubmittedOnce, Arrive, Call, Catalogue, Change, Class, Commit, Committed, Cond, Condition, Delete, Deliver, Does, Down, Effect, Entry, Eras, Event, Fragment, Hand, HasCommit, History, Input, Int, IsCommitted, IsFrom1To, IsLawful, IsOrderable, IsPermitted, IsSerial, IsSoundCatalogue, IsSubmitted, IsTable, KeepsStarts, Log, Lose, MAX_TXNS, Mark, Msg, Notes, Nothing, Pass, Put, Query, Rec, Redeclares, Reject, RelNo, Repeat, Reply, Resend, Round, Row, Settle, Site, Start, Stmt, Submit, Submitted, Tick, Ts, Txn, TxnNo, Up, Update, Wait, after_mark, all_links, calls_of, class_for, committed, contents, copy_at, database_of, effect, event_at, hand_due, history, in_flight, is_down, item_cmp, left, link, mark_due, mark_from, mark_of, marks, next, next_mark, nth_era, one_if, or_else, quiet, redeclares, redeclares_in, resends_now, round, run, site_due, submits_by, submits_in, tm_no, txn_no}
-pub use Rattle.sdd_obligations.specs.base.Name.{IsName}
-pub use Rattle.sdd_obligations.specs.base.Order.{column, row_cmp}
-pub use Rattle.sdd_obligations.specs.base.Words.{tail_of}
-pub use Rattle.sdd_obligations.specs.base.declared.reply.Reply.TheVariants.{Overflow, Rows, TooMany}
-pub use Rattle.sdd_obligations.specs.base.declared.value.Value.{Value}
-pub use Rattle.sdd_obligations.specs.base.declared.value.Value.TheVariants.{Text}
-pub use Rattle.sdd_obligations.specs.catalog.Catalogue.{fragment_of}
-pub use Rattle.sdd_obligations.specs.catalog.Naming.{AreNamed}
-pub use Rattle.sdd_obligations.specs.catalog.Rules.{repeats}
-pub use Rattle.sdd_obligations.specs.copy.Contents.{Dated, keys_in, latest, newer, of_fragment, row_left, row_with}
-pub use Rattle.sdd_obligations.specs.history.declared.record.Rec.TheVariants.{Submit as Submission}
-pub use Rattle.sdd_obligations.specs.lang.Condition.{Tuple, meets_all, part_of, value_at}
-pub use Rattle.sdd_obligations.specs.lang.Database.{Database, Item, key_in, rows_of, with_row}
-pub use Rattle.sdd_obligations.specs.lang.Effect.{Changed, change_of, effect_from, failed_effect, rows_in, with_change, with_deletes, with_updates}
-pub use Rattle.sdd_obligations.specs.lang.Query.{answer, product, projection, selection}
-pub use Rattle.sdd_obligations.specs.lang.Serial.{after_changes, changed_by, item_of, serial, set_to}
-pub use Rattle.sdd_obligations.specs.lang.Update.{added, assigned, assigned_all, chosen, in_range, replaced}
-pub use Rattle.sdd_obligations.specs.lang.declared.assign.Assign.{Assign}
-pub use Rattle.sdd_obligations.specs.lang.declared.assign.Assign.TheVariants.{Add, To}
-pub use Rattle.sdd_obligations.specs.lang.declared.condition.Ref.{Ref}
-pub use Rattle.sdd_obligations.specs.laws.Deeds.{txn_at}
-pub use Rattle.sdd_obligations.specs.laws.Eras.{catalogue_at}
-pub use Rattle.sdd_obligations.specs.laws.Ledger.{Ledger, changes}
-pub use Rattle.sdd_obligations.specs.laws.Replay.{IsReplyOf}
-pub use Rattle.sdd_obligations.specs.laws.Replayed.{GivesResults, IsReplayed}
-pub use Rattle.sdd_obligations.specs.laws.Snapshots.{dated, dated_at, first_row, first_rows, is_applied}
-pub use Rattle.sdd_obligations.specs.laws.Starts.{IsOfSubmit}
-pub use Rattle.sdd_obligations.specs.logs.Due.{home_of}
-pub use Rattle.sdd_obligations.specs.logs.Marks.{from_event}
-pub use Rattle.sdd_obligations.specs.logs.Traffic.{turned_by}
-pub use Rattle.sdd_obligations.specs.serial_orders.Orders.{IsAlong}
-pub use Rattle.sdd_obligations.specs.serial_orders.SerialOrder.{serial_order}
+pub use Rattle.sdd_run.proofs.progress.obligations.needs.Done.{count_join, done}
+pub use Rattle.sdd_run.proofs.progress.obligations.Linking.{lawful_part as lawful_before}
+pub use Rattle.sdd_run.proofs.progress.obligations.base.Membership.{Contains-cases, Contains-here, Contains-later, Contains-nil}
+pub use Rattle.sdd_run.proofs.progress.obligations.invariants.Bools.{neither_left, neither_right}
+pub use Rattle.sdd_run.proofs.progress.obligations.invariants.Made.{permitted_before}
+pub use Rattle.sdd_run.proofs.progress.obligations.invariants.Places.{compare}
+pub use Rattle.sdd_run.proofs.progress.obligations.invariants.logs.NewMarks.{marks_round as round_from}
+pub use Rattle.sdd_run.proofs.progress.obligations.lang.SortedEntries.{each_inserted, each_left, item_cmp_exact}
+pub use Rattle.sdd_run.proofs.progress.obligations.lang.StaysDatabase.{rows_make_database}
+pub use Rattle.sdd_run.proofs.progress.obligations.laws.Members.{Contains-from_filter, all_have as all_by_member}
+pub use Rattle.sdd_run.proofs.progress.obligations.laws.Orders.{agrees, listed}
+pub use Rattle.sdd_run.proofs.progress.obligations.laws.Recorded.{are_recorded, ledger}
+pub use Rattle.sdd_run.proofs.progress.obligations.laws.Run.{replayed}
+pub use Rattle.sdd_run.proofs.progress.obligations.laws.lang.Sets.{each_filtered as kept_hold}
+pub use Rattle.sdd_run.proofs.progress.obligations.laws.serial_orders.InOrder.{each as at_each}
+pub use Rattle.sdd_run.proofs.progress.obligations.laws.links.Members.{All-members as all_members}
+pub use Rattle.sdd_run.proofs.progress.obligations.logs.AsLists.{next_mark_is}
+pub use Rattle.sdd_run.proofs.progress.obligations.logs.NewMarks.{lawful_permitted, left_is, marked}
+pub use Rattle.sdd_run.proofs.progress.obligations.net.Lists.{All-at}
+pub use Rattle.sdd_run.specs.progress.obligations.All.{AllFewTicks, Answer, Apply, AreSubmittedOnce, Arrive, Call, Catalogue, Change, Class, Commit, Committed, Cond, Condition, Delete, Deliver, Does, Down, Effect, Entry, Eras, Event, Fragment, Hand, HasCommit, History, Input, Int, IsCommitted, IsFrom1To, IsLawful, IsOrderable, IsPermitted, IsSerial, IsSoundCatalogue, IsSubmitted, IsTable, KeepsStarts, Log, Lose, MAX_TXNS, Mark, Msg, Notes, Nothing, Pass, Put, Query, Rec, Redeclares, Reject, RelNo, Repeat, Reply, Resend, Round, Row, Settle, Site, Start, Stmt, Submit, Submitted, Tick, Ts, Txn, TxnNo, Up, Update, Wait, after_mark, all_links, calls_of, class_for, committed, contents, copy_at, database_of, effect, event_at, hand_due, history, in_flight, is_down, item_cmp, left, link, mark_due, mark_from, mark_of, marks, next, next_mark, nth_era, one_if, or_else, quiet, redeclares, redeclares_in, resends_now, round, run, site_due, submits_by, submits_in, tm_no, txn_no}
+pub use Rattle.sdd_run.specs.progress.obligations.base.Name.{IsName}
+pub use Rattle.sdd_run.specs.progress.obligations.base.Order.{column, row_cmp}
+pub use Rattle.sdd_run.specs.progress.obligations.base.Words.{tail_of}
+pub use Rattle.sdd_run.specs.progress.obligations.base.declared.reply.Reply.TheVariants.{Overflow, Rows, TooMany}
+pub use Rattle.sdd_run.specs.progress.obligations.base.declared.value.Value.{Value}
+pub use Rattle.sdd_run.specs.progress.obligations.base.declared.value.Value.TheVariants.{Text}
+pub use Rattle.sdd_run.specs.progress.obligations.catalog.Catalogue.{fragment_of}
+pub use Rattle.sdd_run.specs.progress.obligations.catalog.Naming.{AreNamed}
+pub use Rattle.sdd_run.specs.progress.obligations.catalog.Rules.{repeats}
+pub use Rattle.sdd_run.specs.progress.obligations.copy.Contents.{Dated, keys_in, latest, newer, of_fragment, row_left, row_with}
+pub use Rattle.sdd_run.specs.progress.obligations.history.declared.record.Rec.TheVariants.{Submit as Submission}
+pub use Rattle.sdd_run.specs.progress.obligations.lang.Condition.{Tuple, meets_all, part_of, value_at}
+pub use Rattle.sdd_run.specs.progress.obligations.lang.Database.{Database, Item, key_in, rows_of, with_row}
+pub use Rattle.sdd_run.specs.progress.obligations.lang.Effect.{Changed, change_of, effect_from, failed_effect, rows_in, with_change, with_deletes, with_updates}
+pub use Rattle.sdd_run.specs.progress.obligations.lang.Query.{answer, product, projection, selection}
+pub use Rattle.sdd_run.specs.progress.obligations.lang.Serial.{after_changes, changed_by, item_of, serial, set_to}
+pub use Rattle.sdd_run.specs.progress.obligations.lang.Update.{added, assigned, assigned_all, chosen, in_range, replaced}
+pub use Rattle.sdd_run.specs.progress.obligations.lang.declared.assign.Assign.{Assign}
+pub use Rattle.sdd_run.specs.progress.obligations.lang.declared.assign.Assign.TheVariants.{Add, To}
+pub use Rattle.sdd_run.specs.progress.obligations.lang.declared.condition.Ref.{Ref}
+pub use Rattle.sdd_run.specs.progress.obligations.laws.Deeds.{txn_at}
+pub use Rattle.sdd_run.specs.progress.obligations.laws.Eras.{catalogue_at}
+pub use Rattle.sdd_run.specs.progress.obligations.laws.Ledger.{Ledger, changes}
+pub use Rattle.sdd_run.specs.progress.obligations.laws.Replay.{IsReplyOf}
+pub use Rattle.sdd_run.specs.progress.obligations.laws.Replayed.{GivesResults, IsReplayed}
+pub use Rattle.sdd_run.specs.progress.obligations.laws.Snapshots.{dated, dated_at, first_row, first_rows, is_applied}
+pub use Rattle.sdd_run.specs.progress.obligations.laws.Starts.{IsOfSubmit}
+pub use Rattle.sdd_run.specs.progress.obligations.logs.Due.{home_of}
+pub use Rattle.sdd_run.specs.progress.obligations.logs.Marks.{from_event}
+pub use Rattle.sdd_run.specs.progress.obligations.logs.Traffic.{turned_by}
+pub use Rattle.sdd_run.specs.progress.obligations.serial_orders.Orders.{IsAlong}
+pub use Rattle.sdd_run.specs.progress.obligations.serial_orders.SerialOrder.{serial_order}
 pub use Rattle.sdd_verified.specs.Lines.{tells_pending}
 pub use Rattle.sdd_verified.specs.Parts.{all_pending_words, all_shipped_words, answers_words, copies_words, copy_words, order_words, outcome_words, pending_words, queries_words, query_words, replies_words, reply_words, row_words, rows_words, shipped_words}
 pub use Rattle.sdd_verified.specs.Summaries.{SettleAll, TellsAllDone, takes_down}

@@ -1,6 +1,6 @@
 -- In a complete log each transaction that its events submit is submitted.
 use Rattle.sdd_verified.proofs.All.{Bool, Does, Entry, Event, Hand, Input, IsLawful, IsSubmitted, List, Log, Mark, None, Notes, Option, Redeclares, Round, Settle, Site, Some, Submission, Submit, Submitted, TxnNo, [], ap, arith, eqb-true, false, from_event, hand_due, history, home_of, inl, inr, left, left_is, length, mark_due, mark_from, mark_of, marked, next, next_mark, next_mark_is, nth_era, one_if, or_else, recorded_there, redeclares, refl, site_due, submits_by, submits_in, subst, sym, true, txn_no, ℕ, ◌++◌, ◌+◌, ◌==◌, ◌∙◌, ◌∷◌, ◌≡◌, ◌≤◌, ◌⊎◌}
-use Rattle.sdd_obligations.specs.All.{txn_at}
+use Rattle.sdd_run.specs.progress.obligations.All.{txn_at}
 
 -- of what a complete log leaves no event has a mark
 

@@ -3,7 +3,7 @@
 use Rattle.sdd_verified.proofs.All.{Add, All, All-at, All-head, All-tail, AllByRecursion, Assign, AssignsValue, Catalogue, Contains, CopyTable, HoldsValues, Input, Int, IsReportOn, IsSoundCatalogue, IsValid, IsValidRow, IsValidTxn, IsValue, List, None, Option, Put, RelNo, Row, Some, Stmt, To, Txn, TxnNo, Update, Value, Workload, [], cons_option, copy_rows_are, database_of, eras_are, eras_of, fine, history, in_range, input_of, length, lists, permitted, recursion_from_All, refl, run, serial_order, subst, sym, tables_of, true, txn_at, whole_in, ℕ, ℤ, ◌-◌, ◌∷◌, ◌≡◌}
 use Rattle.sdd_verified.proofs.CleanCopies.{copy_holds}
 use Rattle.sdd_verified.proofs.ValuesKept.{Assigns, Answers, Hold, Holds, Writes, WritesAll, first_holds, serial_answers}
-use Rattle.sdd_obligations.specs.laws.Replay.{texts_of}
+use Rattle.sdd_run.specs.progress.obligations.laws.Replay.{texts_of}
 
 module _ (P : Value → Type 0) (ints : (n : ℤ) → in_range n ≡ true → P (Int n)) (given : (v : Value) → IsValue v → P v) where
   row_given : (row : Row) → AllByRecursion IsValue row → Holds P ints row

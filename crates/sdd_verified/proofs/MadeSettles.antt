@@ -1,6 +1,6 @@
 -- Made input leaves nothing undone: it submits each of its transactions, takes no module down, and ends with a settle.
 use Rattle.sdd_verified.proofs.All.{Event, IsSoundCatalogue, IsSummaryOn, List, MAX_TXNS, SettleAll, TellsAllDone, ap, append_assoc, arith, bank, cases_eq, deliveries, delivery, draw, drawn_events, drawn_txn, eq-eqb, events_of, false, inl, inr, length, list_any, one_if, refl, shown, submits_in, subst, suc, sym, takes_down, turn, turns, turns_of, txns_count, txns_of, whole_sound, workload_of, workload_valid, zero, ℕ, ◌++◌, ◌+◌, ◌<◌, ◌==◌, ◌≡◌, ◌≤◌}
-use Rattle.sdd_obligations.specs.catalog.Rules.{faults_of}
+use Rattle.sdd_run.specs.progress.obligations.catalog.Rules.{faults_of}
 use Rattle.sdd_verified.proofs.AllSummed.{all_summed}
 use Rattle.sdd_verified.proofs.Submitting.{submits_append as submits_both}
 use Rattle.sdd_run.specs.make.Draws.{next}

@@ -1,6 +1,6 @@
 -- Where no event takes a module down, none is down at any time.
 use Rattle.sdd_verified.proofs.All.{Bool, Call, Deliver, Down, Event, Input, IsLawful, List, Log, Lose, Mark, Msg, None, Redeclares, Repeat, Resend, Round, Settle, Site, Some, Submit, Tick, Up, [], after_mark, all_links, calls_of, cond, cons_option, false, filter_map, flat_map, from_event, if◌then◌else◌, in_flight, is_down, left, link, list_any, mark_from, mark_of, neither_left, neither_right, next_is_of_events, quiet, refl, replicate, resends_now, round, round_from, subst, suc, tail_of, takes_down, true, turned_by, zero, ℕ, ◌++◌, ◌∷◌, ◌≡◌}
-use Rattle.sdd_obligations.specs.All.{same_site}
+use Rattle.sdd_run.specs.progress.obligations.All.{same_site}
 
 -- events of which none takes a module down
 abbrev AreUp : List Event → Type 0

@@ -1,7 +1,7 @@
 -- The lines of a report: none of its trace tells an order, and what follows the replies begins with a line of no reply.
 use Rattle.sdd_verified.proofs.All.{All, All-cons, All-nil, AreLines, Catalogue, Class, Cond, CopyTable, HasNoNewline, IsName, IsOther, List, None, Option, Pending, Rec, ReportedCommit, Some, Ts, Txn, TxnNo, [], append_assoc, arith, attempt_word, class_time, class_word, codes, cond, cond_words, copies_lines, decimal, digit_glyph, digits_onto, false, flat_map, found_member, is_order_line, module_word, name_line, nat_tests, ne_eqb, no_newline-append, of_attempt, of_visit, option_map_or, pending_lines, record_words, refl, reported_of, rules, shipped_line, shipped_of, slice_get, spaced, spelled_lines, subst, suc, sym, tells_reply, time_word, trace, true, txn_name, zero, ℕ, ◌%◌, ◌++◌, ◌+◌, ◌-◌, ◌/◌, ◌<◌, ◌==◌, ◌∷◌, ◌≡◌, ◌≢◌, ◌≤◌}
 use Rattle.std.specs.Fmt.{digits}
-use Rattle.sdd_obligations.specs.history.declared.record.Rec.TheVariants as records
+use Rattle.sdd_run.specs.progress.obligations.history.declared.record.Rec.TheVariants as records
 
 -- numbers
 

@@ -1,8 +1,8 @@
 -- The lines of a report, part by part, each without its newline.
 use Rattle.std.specs.Prelude.{ℕ, ◌+◌, List, [], ◌∷◌, ◌++◌, codes, flat_map, length, map, Option, Some, None}
 use Rattle.std.specs.Fmt.{decimal}
-use Rattle.sdd_obligations.specs.All.{Catalogue, Rec, Reply, Row, Txn, TxnNo}
-use Rattle.sdd_obligations.specs.base.declared.reply.Reply.TheVariants.{Rows, Overflow, TooMany}
+use Rattle.sdd_run.specs.progress.obligations.All.{Catalogue, Rec, Reply, Row, Txn, TxnNo}
+use Rattle.sdd_run.specs.progress.obligations.base.declared.reply.Reply.TheVariants.{Rows, Overflow, TooMany}
 use Rattle.sdd_run.specs.report.Committed.{ReportedCommit, reported_of}
 use Rattle.sdd_run.specs.report.Copies.{place_words}
 use Rattle.sdd_run.specs.report.Names.{spaced, txn_name}

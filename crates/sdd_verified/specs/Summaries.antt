@@ -1,7 +1,7 @@
 -- Schedules that leave nothing undone, and summaries that count as many Commits as transactions.
 use Rattle.std.specs.Prelude.{ℕ, ◌≡◌, ◌≤◌, Bool, true, false, List, [], ◌∷◌, refl}
 use Rattle.std.specs.List.{list_any}
-use Rattle.sdd_obligations.specs.All.{D, Down, Event, Settle, Submit, dm_no, submits_in, txn_no}
+use Rattle.sdd_run.specs.progress.obligations.All.{D, Down, Event, Settle, Submit, dm_no, submits_in, txn_no}
 use Rattle.sdd_run.specs.make.Summary.{summary_text}
 use Rattle.sdd_run.specs.make.declared.summary.Summary.{Summary}
 use Rattle.sdd_run.specs.Settled.{EndsAtRest}

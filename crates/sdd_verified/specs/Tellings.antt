@@ -1,6 +1,6 @@
 -- What the text of a report gives back.
 use Rattle.std.specs.Prelude.{ℕ, ◌≡◌, List, map}
-use Rattle.sdd_obligations.specs.All.{Catalogue, Row, Txn, TxnNo}
+use Rattle.sdd_run.specs.progress.obligations.All.{Catalogue, Row, Txn, TxnNo}
 use Rattle.sdd_run.specs.report.Committed.{names_of}
 use Rattle.sdd_run.specs.report.Copies.{place_words}
 use Rattle.sdd_run.specs.report.Names.{txn_name}

@@ -6,7 +6,7 @@ ghost use Rattle.sdd_verify.specs.Verdict.{verdict};
 ghost use Rattle.sdd_verify.specs.declared.limits.TheConstants.{MAX_REPORT_BYTES};
 ghost use Rattle.sdd_verify.specs.declared.verdict.Verdict.TheVariants.{Yes};
 
-use sdd_obligations::Catalogue;
+use sdd_catalog::Catalogue;
 
 /// The verdict on the report on the run of a workload is Yes, where the report isn't too long to be
 /// judged, whatever class lists the workload puts in force. Takes no time and no memory.

@@ -1,7 +1,7 @@
 //! The lines of pending transactions in a report.
 ghost use Rattle.std.specs.Prelude.{ℕ, ◌≡◌, [], false, Contains, List, count_by, length};
-ghost use Rattle.sdd_obligations.specs.All.{Catalogue, IsSoundCatalogue};
-ghost use Rattle.sdd_obligations.specs.catalog.Naming.{AreNamed};
+ghost use Rattle.sdd_run.specs.progress.obligations.All.{Catalogue, IsSoundCatalogue};
+ghost use Rattle.sdd_run.specs.progress.obligations.catalog.Naming.{AreNamed};
 ghost use Rattle.sdd_run.specs.Runs.{IsReportOn, report};
 ghost use Rattle.sdd_run.specs.script.Valid.{IsValid};
 ghost use Rattle.sdd_run.specs.script.declared.workload.Workload.{Workload};

@@ -1,6 +1,6 @@
 //! The summary of a run that leaves nothing undone.
 ghost use Rattle.std.specs.Prelude.{ℕ, ◌≡◌, ◌≤◌, List, length};
-ghost use Rattle.sdd_obligations.specs.All.{Catalogue, IsSoundCatalogue, MAX_TXNS};
+ghost use Rattle.sdd_run.specs.progress.obligations.All.{Catalogue, IsSoundCatalogue, MAX_TXNS};
 ghost use Rattle.sdd_run.specs.make.Bank.{bank};
 ghost use Rattle.sdd_run.specs.make.Turns.{workload_of};
 ghost use Rattle.sdd_run.specs.Runs.{IsSummaryOn};

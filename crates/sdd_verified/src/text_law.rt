@@ -1,7 +1,7 @@
 //! What the text of a report gives back.
 ghost use Rattle.std.specs.Prelude.{ℕ, ◌≡◌, List};
-ghost use Rattle.sdd_obligations.specs.All.{Catalogue, IsSoundCatalogue};
-ghost use Rattle.sdd_obligations.specs.catalog.Naming.{AreNamed};
+ghost use Rattle.sdd_run.specs.progress.obligations.All.{Catalogue, IsSoundCatalogue};
+ghost use Rattle.sdd_run.specs.progress.obligations.catalog.Naming.{AreNamed};
 ghost use Rattle.sdd_run.specs.Runs.{IsReportOn};
 ghost use Rattle.sdd_run.specs.script.Valid.{IsValid};
 ghost use Rattle.sdd_run.specs.script.declared.workload.Workload.{Workload};
