@@ -14,9 +14,10 @@ FILES = {
     "crates.txt": "sdd_low:\nsdd_high: sdd_low\nsdd_beside:\n",
     "crates/sdd_low/specs/Lib.antt": "pub mod Words\n",
     "crates/sdd_low/specs/Words.antt": "pub word : Type 0\n",
+    "crates/sdd_low/specs/Steps.antt": "pub step : Type 0\n",
     "crates/sdd_high/proofs/One.antt": "use Rattle.sdd_low.specs.Words.{word, sentence}\nuse Rattle.sdd_high.proofs.Two.{two}\none : Type 0\n",
     "crates/sdd_high/proofs/Two.antt": "use Rattle.sdd_high.proofs.One.{one}\ntwo : Type 0\n",
-    "crates/sdd_high/proofs/g/Answers.antt": "use Rattle.sdd_high.proofs.f.Goals as goal\n",
+    "crates/sdd_high/proofs/g/Answers.antt": "use Rattle.sdd_high.proofs.f.Goals as goal\nuse Rattle.sdd_low.specs.Steps.{step, leap}\n",
     "crates/sdd_high/proofs/f/Answers.antt": "use Rattle.sdd_beside.specs.Words.{}\npub requires-clause-old : goal.requires-clause-new\n",
 }
 WRONG = [
@@ -26,6 +27,7 @@ WRONG = [
     "crates/sdd_high/proofs/f/Answers.antt: requires-clause-old answers the goal requires-clause-new",
     "crates/sdd_high/proofs/f/Answers.antt: there is no sdd_beside.specs.Words",
     "crates/sdd_high/proofs/g/Answers.antt: answers goals of sdd_high.proofs.f",
+    "crates/sdd_high/proofs/g/Answers.antt: sdd_low.specs.Steps has no leap",
 ]
 
 

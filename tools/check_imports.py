@@ -79,9 +79,10 @@ def files():
 def missing(homes, file):
     """What a file takes from another one that doesn't stand there."""
     for path, names in TAKES.findall(text_of(file)):
-        if MADE & {*path.split(".")} or path.split(".")[1] not in ("specs", "proofs"):
-            continue
         home = homes.file_of(path)
+        # (a file of a person's may have the name of what the prover makes: specs/Steps.antt)
+        if path.split(".")[1] not in ("specs", "proofs") or MADE & {*path.split(".")} and not os.path.exists(home):
+            continue
         if not os.path.exists(home):
             yield "%s: there is no %s" % (os.path.relpath(file, ROOT), path)
             continue
