@@ -1,3 +1,4 @@
+use Rattle.std.proofs.lemmas.Grind.{common_steps}
 use Rattle.sdd_advise.proofs.All.{arith, false, false≢true, get_or, get_or_read, length, refl, sym, ◌<◌, ◌∙◌}
 use Rattle.sdd_advise.proofs.Distinctness.{one_marked, met_again}
 use Rattle.sdd_advise.proofs.cycle.differ.Goals as goal
@@ -21,3 +22,9 @@ nodes-preserved c =
     let room : v < length c.nodes.met.items = omega (arith, c.nodes.invariant.one_each) in
     one_marked nodes count c.args.limit c.nodes.met.items _ c.nodes.invariant c.nodes-test.true within
     (sym (get_or_read c.nodes.met.items v c.index.result.now room c.index.ensures false) ∙ c.if-index.false) refl
+
+pub nodes-init : goal.nodes-init
+nodes-init c = grind (arith, common_steps)
+
+pub returns : goal.returns
+returns c = grind (arith, common_steps)

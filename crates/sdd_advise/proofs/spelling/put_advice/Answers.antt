@@ -1,3 +1,5 @@
+use Rattle.std.proofs.Common.{arith}
+use Rattle.std.proofs.lemmas.Grind.{common_steps}
 use Rattle.sdd_advise.proofs.All.{All, IsEdgeOf, length, subst, sym, ◌*◌, ◌<◌}
 use Rattle.sdd_advise.proofs.Known.{good_edge, good_cycle, good_apart}
 use Rattle.sdd_advise.proofs.spelling.put_advice.Goals as goal
@@ -12,3 +14,6 @@ put_cycle-requires c =
 pub put_apart-requires : goal.put_apart-requires
 put_apart-requires c =
     subst (All (λ node. node < 2 * length c.args.catalogue.now.classes)) (sym c.as_slice-2.ensures) (good_apart c.args.catalogue.now c.args.advice.now c.requires)
+
+pub returns : goal.returns
+returns c = grind (arith, common_steps)
