@@ -30,13 +30,11 @@
 //! ends the program with status 1, and its number is printed.
 #![tactic(auto)]
 
-mod answer;
-mod printed;
-mod runs;
-
-use anyhow::{Context, Result};
-use runs::tell_runs;
-use sdd_case_lines::CaseReader;
+use anyhow::Result;
+use sdd_app::run_sdd1;
+use sdd_app_ask::run_ask;
+use sdd_app_inside::run_inside;
+use sdd_case_runs::{MemShelf, MemSink, Program, Programs, Status, tell_cases};
 use std::alloc::Global;
 use std::io::{self, BufWriter, Write};
 
@@ -44,35 +42,29 @@ fn main(rt: HostRuntime) -> Result<()> {
     let alloc = rt.alloc();
     let lines = io::read_to_string(alloc, rt.reader())?;
     let mut out = BufWriter::new(alloc, io::writer(&rt))?;
-    tell_cases(alloc, lines.as_str(), &mut out)?;
+    tell_cases(alloc, &TopCalls, lines.as_str(), &mut out)?;
     out.flush()?;
     Ok(())
 }
 
-/// Runs the cases of the lines one after the other, and writes what they answer.
-fn tell_cases<W: Write>(alloc: Global, lines: &str, out: &mut W) -> Result<()> {
-    let mut reader = CaseReader::new(alloc);
-    for (before, line) in lines.split('\n').enumerate() {
-        take_line(alloc, &mut reader, line, out).context(format_args!(
-            "line {}",
-            before.saturating_add(1)
-        ))?;
-    }
-    match reader.end() {
-        None => Ok(()),
-        Some(case) => tell_runs(alloc, &case, out),
-    }
-}
+/// The top calls of the three programs.
+#[derive(Drop)]
+struct TopCalls;
 
-/// Reads a line, and runs the case that it ends.
-fn take_line<W: Write>(
-    alloc: Global,
-    reader: &mut CaseReader,
-    line: &str,
-    out: &mut W,
-) -> Result<()> {
-    match reader.take(alloc, line)? {
-        None => Ok(()),
-        Some(case) => tell_runs(alloc, &case, out),
+impl Programs for TopCalls {
+    fn call(
+        &self,
+        alloc: Global,
+        program: Program,
+        words: &[String],
+        shelf: &mut MemShelf,
+        out: &mut MemSink,
+        err: &mut MemSink,
+    ) -> Status {
+        match program {
+            Program::Sdd1 => run_sdd1(alloc, words, shelf, out, err),
+            Program::Inside => run_inside(alloc, words, shelf, out, err),
+            Program::Ask => run_ask(alloc, words, shelf, out, err),
+        }
     }
 }

@@ -1,6 +1,7 @@
 //! The runs of a case.
 use crate::answer::{Answer, Run, call};
 use crate::printed::{put_answer, put_name, put_numbers};
+use crate::programs::Programs;
 use anyhow::{Result, bail};
 use sdd_case_lines::{Case, Each, front};
 use sdd_shell::Status;
@@ -19,33 +20,49 @@ struct Group {
 }
 
 /// Makes the runs of a case, and writes its name and what they answer.
-pub fn tell_runs<W: Write>(alloc: Global, case: &Case, out: &mut W) -> Result<()> {
+pub fn tell_runs<P: Programs, W: Write>(
+    alloc: Global,
+    programs: &P,
+    case: &Case,
+    out: &mut W,
+) -> Result<()> {
     put_name(out, case.name.as_str())?;
     match &case.each {
-        Each::Alone => tell_alone(alloc, case, out),
-        _ => tell_each(alloc, case, out),
+        Each::Alone => tell_alone(alloc, programs, case, out),
+        _ => tell_each(alloc, programs, case, out),
     }
 }
 
-fn tell_alone<W: Write>(alloc: Global, case: &Case, out: &mut W) -> Result<()> {
-    let answer = call(alloc, case, nth(case, 0))?;
+fn tell_alone<P: Programs, W: Write>(
+    alloc: Global,
+    programs: &P,
+    case: &Case,
+    out: &mut W,
+) -> Result<()> {
+    let answer = call(alloc, programs, case, nth(case, 0))?;
     put_answer(out, &answer)
 }
 
-fn tell_each<W: Write>(alloc: Global, case: &Case, out: &mut W) -> Result<()> {
+fn tell_each<P: Programs, W: Write>(
+    alloc: Global,
+    programs: &P,
+    case: &Case,
+    out: &mut W,
+) -> Result<()> {
     let mut group = None;
-    tell_groups(alloc, case, &mut group, out)
+    tell_groups(alloc, programs, case, &mut group, out)
 }
 
 /// Makes the runs, and writes each group once it is whole.
-fn tell_groups<W: Write>(
+fn tell_groups<P: Programs, W: Write>(
     alloc: Global,
+    programs: &P,
     case: &Case,
     group: &mut Option<Group>,
     out: &mut W,
 ) -> Result<()> {
     for number in first(case)..MOST {
-        if make_run(alloc, case, number, group, out)? {
+        if make_run(alloc, programs, case, number, group, out)? {
             return put_group(out, group);
         }
     }
@@ -53,14 +70,15 @@ fn tell_groups<W: Write>(
 }
 
 /// Makes one run, and says whether it is the last.
-fn make_run<W: Write>(
+fn make_run<P: Programs, W: Write>(
     alloc: Global,
+    programs: &P,
     case: &Case,
     number: usize,
     group: &mut Option<Group>,
     out: &mut W,
 ) -> Result<bool> {
-    let next = call(alloc, case, nth(case, number))?;
+    let next = call(alloc, programs, case, nth(case, number))?;
     let last = is_last(case, number, &next);
     add_run(group, number, next, out)?;
     Ok(last)

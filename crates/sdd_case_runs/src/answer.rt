@@ -1,12 +1,10 @@
 //! One call of a program, and what it answers.
 ghost use Rattle.std.specs.Prelude.{◌≡◌, IsTrue};
 
+use crate::programs::Programs;
 use anyhow::{Result, anyhow};
-use sdd_app::run_sdd1;
-use sdd_app_ask::run_ask;
-use sdd_app_inside::run_inside;
 use sdd_base::{Bytes, CallNos, Files, MemShelf, MemSink, ShelfFile};
-use sdd_case_lines::{Case, Program, Taking, Text};
+use sdd_case_lines::{Case, Taking, Text};
 use sdd_shell::Status;
 use std::alloc::Global;
 
@@ -40,31 +38,29 @@ impl Answer {
 }
 
 /// Makes the call.
-pub fn call(alloc: Global, case: &Case, run: Run<'_>) -> Result<Answer> {
+pub fn call<P: Programs>(alloc: Global, programs: &P, case: &Case, run: Run<'_>) -> Result<Answer> {
     let mut shelf = shelf(alloc, case, run)?;
-    call_over(alloc, case, run, &mut shelf)
+    call_over(alloc, programs, case, run, &mut shelf)
 }
 
 /// Makes the call over this shelf.
-fn call_over(alloc: Global, case: &Case, run: Run<'_>, shelf: &mut MemShelf) -> Result<Answer> {
-    let mut answer = empty_answer(alloc, case, run)?;
-    answer.status = status(alloc, case, shelf, &mut answer.out, &mut answer.err);
-    Ok(answer)
-}
-
-fn status(
+fn call_over<P: Programs>(
     alloc: Global,
+    programs: &P,
     case: &Case,
+    run: Run<'_>,
     shelf: &mut MemShelf,
-    out: &mut MemSink,
-    err: &mut MemSink,
-) -> Status {
-    let words = case.words.as_slice();
-    match case.program {
-        Program::Sdd1 => run_sdd1(alloc, words, shelf, out, err),
-        Program::Inside => run_inside(alloc, words, shelf, out, err),
-        Program::Ask => run_ask(alloc, words, shelf, out, err),
-    }
+) -> Result<Answer> {
+    let mut answer = empty_answer(alloc, case, run)?;
+    answer.status = programs.call(
+        alloc,
+        case.program,
+        case.words.as_slice(),
+        shelf,
+        &mut answer.out,
+        &mut answer.err,
+    );
+    Ok(answer)
 }
 
 fn shelf(alloc: Global, case: &Case, run: Run<'_>) -> Result<MemShelf> {
