@@ -1,61 +1,28 @@
 -- The names of std, of the crates below and of this crate's definitions that its proofs cite. Declares nothing.
-pub use Rattle.sdd_app.specs.Accepting.{AcceptsScript}
-pub use Rattle.sdd_app.specs.Answer.{IsSerialText, about_made, about_script, judged_as, request_of}
+pub use Rattle.sdd_app.specs.Answer.{about_made, request_of}
 pub use Rattle.sdd_app.specs.Calls.{sdd1_call}
-pub use Rattle.sdd_app.specs.Check.{class_count, module_counts, part_counts}
-pub use Rattle.sdd_app.specs.Command.{Advise, Check, Control, Form, Graph, IsForm, IsNoForm, Make, Plain, Run, Table, Verify, count_in, form_of, made, words_of}
-pub use Rattle.sdd_app.specs.Edges.{graph_text, table_text}
-pub use Rattle.sdd_app.specs.Judging.{verdict_line}
-pub use Rattle.sdd_app.specs.Listing.{Tells}
 pub use Rattle.sdd_app.specs.Made.{IsMadeSummary, OverMade}
-pub use Rattle.sdd_app.specs.OverScript.{BlamesScript, OverScript, script_named}
-pub use Rattle.sdd_app.specs.Serially.{names_of, replies_of, submitted, submitted_by}
-pub use Rattle.sdd_control.specs.Report.{report}
-pub use Rattle.sdd_control.specs.Walk.{control_script, most_bytes}
-pub use Rattle.sdd_control.specs.declared.script.ControlScript.{ControlScript}
-pub use Rattle.sdd_graph.proofs.Known.{edges_known}
-pub use Rattle.sdd_graph.specs.Edges.{IsEdgeOf}
-pub use Rattle.sdd_graph.specs.declared.edge.Edge.{Edge}
-pub use Rattle.sdd_lang.specs.All.{Catalogue, Event, FitsStart, FitsTxn, MAX_TXNS, MAX_WORKLOAD_BYTES, Submit, database_of}
-pub use Rattle.sdd_lang.specs.base.Outside.{ReadsTo, find_file}
-pub use Rattle.sdd_lang.specs.base.declared.files.ShelfFile.{ShelfFile}
-pub use Rattle.sdd_lang.specs.declared.transaction.Txn.{Txn}
-pub use Rattle.sdd_protocol.proofs.Tables.{all_at as found_member}
-pub use Rattle.sdd_protocol.specs.Protocols.{IsTable}
-pub use Rattle.sdd_protocol.specs.declared.entry.Entry.{Entry}
-pub use Rattle.sdd_verified.proofs.run.Apart.{report_or_limit, summary_or_limit}
-pub use Rattle.sdd_verified.proofs.run.world.Results.{after_ok as on_ok_then}
-pub use Rattle.sdd_verified.specs.run.Runs.{EndsAtLimit, IsReportOn, IsSummaryOn}
-pub use Rattle.sdd_shell.proofs.Accepted.{made_of_read, not_read, report_not_read, report_told, report_untold}
-pub use Rattle.sdd_shell.proofs.AtFault.{at_more, err_by, silent_at}
+pub use Rattle.sdd_commands.proofs.Forms.{found_form, no_form}
+pub use Rattle.sdd_commands.proofs.Scripts.{script_decided}
+pub use Rattle.sdd_commands.specs.Command.{Advise, Check, Control, Form, Graph, IsForm, Make, Plain, Run, Table, Verify, form_of}
+pub use Rattle.sdd_commands.specs.Listing.{Tells}
+pub use Rattle.sdd_commands.specs.Requests.{IsSerialText, judged_as}
+pub use Rattle.sdd_lang.specs.All.{MAX_TXNS}
 pub use Rattle.sdd_shell.proofs.Calls.{ends_as, form_answers, no_form_answers}
-pub use Rattle.sdd_shell.proofs.Ended.{one_ended}
-pub use Rattle.sdd_shell.proofs.FileReads.{on_ok_by, read_gives, read_to_end, read_to_limit}
-pub use Rattle.sdd_shell.proofs.Requests.{catalogue_refused, catalogue_told, catalogue_untold, report_answers, report_first_refused, report_second_refused, workload_answers, workload_first_refused, workload_second_refused}
-pub use Rattle.sdd_shell.proofs.Verdicts.{IsDecided, catalogue_decided, explains_more, report_decided, workload_decided}
-pub use Rattle.sdd_shell.specs.Accepting.{ReadsOne}
-pub use Rattle.sdd_shell.specs.Endings.{HasReadOf}
+pub use Rattle.sdd_shell.proofs.Requests.{workload_answers, workload_first_refused, workload_second_refused}
+pub use Rattle.sdd_shell.proofs.Verdicts.{IsDecided, catalogue_decided, report_decided, workload_decided}
 pub use Rattle.sdd_shell.specs.OverWorkload.{MakesNoRun}
 pub use Rattle.sdd_shell.specs.Requests.{AnswersRequest}
 pub use Rattle.sdd_shell.specs.States.{ShelfState}
-pub use Rattle.sdd_shell.specs.Verdict.{AtFault, ComesOfFiles, Explains, FaultyWorkload, MakesText, Prints, Verdict, status_of}
+pub use Rattle.sdd_shell.specs.Verdict.{MakesText, Verdict, status_of}
+pub use Rattle.sdd_shell.specs.declared.status.Status.TheVariants.{Limit, NoMemory}
 pub use Rattle.sdd_shell.specs.declared.status.Status.{Status}
-pub use Rattle.sdd_shell.specs.declared.status.Status.TheVariants.{BadCatalogue, BadWorkload, Limit, NoMemory, ReadFault}
 pub use Rattle.sdd_verified.proofs.MadeSettles.{made_summed}
-pub use Rattle.sdd_verified.proofs.verifying.Submissions.{lent_fit, start_fits}
+pub use Rattle.sdd_verified.proofs.run.Apart.{report_or_limit, summary_or_limit}
 pub use Rattle.sdd_verified.specs.make.Bank.{bank}
 pub use Rattle.sdd_verified.specs.make.Turns.{workload_of}
-pub use Rattle.sdd_verified.specs.report.Names.{spaced}
-pub use Rattle.sdd_verified.specs.script.Valid.{IsValid, IsValidTxn}
-pub use Rattle.sdd_verified.specs.script.declared.fault.WorkFault.{WorkFault}
-pub use Rattle.sdd_verified.specs.script.declared.workload.Workload.{Workload}
+pub use Rattle.sdd_verified.specs.run.Runs.{EndsAtLimit, IsReportOn, IsSummaryOn}
+pub use Rattle.sdd_verified.specs.script.Valid.{IsValid}
 pub use Rattle.sdd_verified.specs.verifying.declared.limits.TheConstants.{MAX_REPORT_BYTES}
-pub use Rattle.sdd_verified.specs.verifying.declared.verdict.Verdict.TheVariants.{No}
-pub use Rattle.std.proofs.Common.{All, Bool, Bor, Err, IfErr, IsSome, IsTrue, List, MatchResult, None, Ok, Option, Result, Some, [], ap, append_assoc, arith, bytes_eq, codes, cond, decimal, drop, false, filter_map, flat_map, inl, inr, length, lt-ltb, ltb-true, map, nat_le, nat_lt, option_map, refl, string_bytes, subst, sym, take, true, ℕ, ◌&&◌, ◌++◌, ◌+◌, ◌-◌, ◌<◌, ◌^◌, ◌∙◌, ◌∷◌, ◌≡◌, ◌≤◌}
-pub use Rattle.std.proofs.lemmas.Bool.{cases_lt, lt-leb}
-pub use Rattle.std.proofs.lemmas.Fmt.{decimal_injective, decimal_is_IsNumeral}
-pub use Rattle.std.proofs.lemmas.List.{take_more}
-pub use Rattle.std.proofs.lemmas.List.Elements.{All-cons, All-head, All-nil, All-tail, filter_map-append}
+pub use Rattle.std.proofs.Common.{Err, List, Ok, Result, [], map, refl, string_bytes, subst, sym, ℕ, ◌≡◌, ◌≤◌}
 pub use Rattle.std.proofs.lemmas.Result.{err_from_is_err_and}
-pub use Rattle.std.proofs.lemmas.Slice.Eq.{bytes_eq-Decides}
-pub use Rattle.std.specs.Str.Parse.{digits_value}

@@ -7,8 +7,8 @@ use Rattle.sdd_shell.specs.NamedFiles.{catalogue_named}
 use Rattle.sdd_shell.specs.OverCatalogue.{faulty_catalogue, printed}
 use Rattle.sdd_shell.specs.Verdict.{NoForm, Prints, FaultyCatalogue}
 use Rattle.sdd_app.specs.Answer.{request_of}
-use Rattle.sdd_app.specs.Check.{check_line}
-use Rattle.sdd_app.specs.Command.{Form, Check, IsNoForm, form_in, usage_line}
+use Rattle.sdd_commands.specs.Check.{check_line}
+use Rattle.sdd_commands.specs.Command.{Form, Check, IsNoForm, form_in, usage_line}
 
 abbrev pub sdd1_call : Call Form
 sdd1_call = record { form_in = form_in; is_no_form = IsNoForm; request = request_of; usage = usage_line }

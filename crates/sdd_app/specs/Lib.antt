@@ -1,11 +1,3 @@
-pub mod Accepting
 pub mod Answer
 pub mod Calls
-pub mod Check
-pub mod Command
-pub mod Edges
-pub mod Judging
-pub mod Listing
 pub mod Made
-pub mod OverScript
-pub mod Serially

@@ -1,19 +1,18 @@
 //! The call of the program.
 ghost use Rattle.std.specs.Prelude.{◌≡◌, map, string_bytes};
+ghost use Rattle.sdd_commands.specs.Command.{IsForm, form_of};
 ghost use Rattle.sdd_shell.specs.Calls.{AnswersAs, EndsAs, OpensNoFile};
 ghost use Rattle.sdd_shell.specs.NamedFiles.{OpensNone};
 ghost use Rattle.sdd_shell.specs.Requests.{AnswersRequest};
 ghost use Rattle.sdd_shell.specs.States.{shelf_by, sink_by};
 ghost use Rattle.sdd_app.specs.Answer.{request_of};
 ghost use Rattle.sdd_app.specs.Calls.{sdd1_call};
-ghost use Rattle.sdd_app.specs.Command.{IsForm, form_of};
 
-use crate::command::{Command, parse_words};
-use crate::control_file::control_answer;
-use crate::judging::verify_answer;
-use crate::listing::{Listing, listing_answer};
 use crate::made_input::make_answer;
-use crate::workload_answer::{plain_answer, run_answer};
+use crate::workload_answer::run_answer;
+use sdd_commands::{
+    Command, Listing, control_answer, listing_answer, parse_words, plain_answer, verify_answer,
+};
 use sdd_lang::{Pages, Shelf, Sink};
 use sdd_shell::{Status, end_call};
 use std::alloc::Global;

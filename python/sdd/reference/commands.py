@@ -7,7 +7,7 @@
     sdd reference certify CAT WORK REPORT       the same of a report (sdd/reference/certify.py)
 
 From words and files it makes a status, a line on standard error, and a text. Words are judged first, then the catalogue, then the workload, then the report. Definition: docs/FORMATS.md, "Words";
-crates/sdd_app/specs/Answer.antt, Command.antt.
+crates/sdd_app/specs/Answer.antt; crates/sdd_commands/specs/Command.antt.
 """
 import os
 import sys

@@ -1,5 +1,4 @@
-use Rattle.sdd_app.proofs.All.{form_answers, form_of, map, no_form_answers, sdd1_call, string_bytes}
-use Rattle.sdd_app.proofs.Forms.{found_form, no_form}
+use Rattle.sdd_app.proofs.All.{form_answers, form_of, found_form, map, no_form, no_form_answers, sdd1_call, string_bytes}
 use Rattle.sdd_app.proofs.run.answer.Goals as goal
 
 pub returns-in-None-clause-answers : goal.returns-in-None-clause-answers

@@ -1,6 +1,0 @@
-use Rattle.sdd_app.proofs.All.{graph_text, take, ◌++◌, ◌≡◌}
-use Rattle.sdd_app.proofs.edges.put_edge_lines.Given as goal
-
--- so far the text holds the lines of the entries so far
-abbrev pub invariant-entries : goal.invariant-entries
-invariant-entries l = l.out.items ≡ l.fn.out.items ++ graph_text l.catalogue (take l.entry-index l.entries)

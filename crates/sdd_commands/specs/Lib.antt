@@ -1,0 +1,9 @@
+pub mod Accepting
+pub mod Check
+pub mod Command
+pub mod Edges
+pub mod Judging
+pub mod Listing
+pub mod OverScript
+pub mod Requests
+pub mod Serially
