@@ -20,7 +20,7 @@ use Rattle.sdd_app_inside.specs.watch.obligations.All.{Input, IsGood, IsTheLog, 
 use Rattle.sdd_app_inside.proofs.watch.EachEvent.{at_self}
 use Rattle.sdd_app_inside.specs.watch.Moments.{at_event}
 use Rattle.sdd_app_inside.specs.watch.Text.{change}
-use Rattle.sdd_app_inside.specs.run.world.Copies.{tables_of}
+use Rattle.sdd_app_inside.specs.run.schedule.Copies.{tables_of}
 
 -- the numbers in the lines of a run have 64 bits at most
 abbrev pub HasSmallLines : Input → Log → Type 0

@@ -24,7 +24,7 @@ use Rattle.sdd_app_inside.specs.watch.obligations.protocol.declared.entry.Entry.
 use Rattle.sdd_app_inside.specs.run.Runs.{AreTables, input, input_of}
 use Rattle.sdd_app_inside.specs.run.script.Valid.{IsValid}
 use Rattle.sdd_app_inside.specs.run.script.declared.workload.Workload.{Workload}
-use Rattle.sdd_app_inside.specs.run.world.Copies.{tables_of}
+use Rattle.sdd_app_inside.specs.run.schedule.Copies.{tables_of}
 
 -- one line more
 pub one_change : (g : Input) (log : Log) (n : ℕ) → changes_to g log (suc n) ≡ changes_to g log n ++ change g (at_event n log) (at_event (suc n) log) ∷ []

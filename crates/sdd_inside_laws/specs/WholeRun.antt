@@ -10,7 +10,7 @@ use Rattle.sdd_inside_laws.specs.TextReader.{by_names, read_all_told}
 use Rattle.sdd_inside_read.specs.LineReader.{event_lines, read_line}
 use Rattle.sdd_app_inside.specs.watch.Moments.{all_pipes, at_event}
 use Rattle.sdd_app_inside.specs.watch.Text.{change}
-use Rattle.sdd_app_inside.specs.run.world.Copies.{tables_of}
+use Rattle.sdd_app_inside.specs.run.schedule.Copies.{tables_of}
 
 -- what event k changed
 abbrev pub change_at : Input → Log → ℕ → Delta

@@ -156,9 +156,9 @@ pub use Rattle.sdd_script.specs.declared.workload.Workload.{Workload}
 pub use Rattle.sdd_schedule.proofs.world.Results.{of_ok}
 pub use Rattle.sdd_schedule.specs.world.sites.AtSites.{standing_at}
 pub use Rattle.sdd_schedule.specs.world.sites.Beginnings.{AllBegin, BeginsD, IsBegun, There}
-pub use Rattle.sdd_schedule.specs.world.Copies.{rows_left, table_of, tables_at, tables_of}
-pub use Rattle.sdd_schedule.specs.world.LastHomes.{AreAtLastHomes, all_at_last, last_home, pending_at_last}
-pub use Rattle.sdd_schedule.specs.world.Pending.{IsListed, commits, pending_as, pending_in, pending_of, status_at, submitted_at, unmet, wait_at, wait_for, waits_of, why_at, why_of, why_pending}
+pub use Rattle.sdd_schedule.specs.Copies.{rows_left, table_of, tables_at, tables_of}
+pub use Rattle.sdd_schedule.specs.LastHomes.{AreAtLastHomes, all_at_last, last_home, pending_at_last}
+pub use Rattle.sdd_schedule.specs.Pending.{IsListed, commits, pending_as, pending_in, pending_of, status_at, submitted_at, unmet, wait_at, wait_for, waits_of, why_at, why_of, why_pending}
 pub use Rattle.sdd_schedule.specs.Schedules.{AreAllowed, lists_after, takes_rounds, with_events}
 pub use Rattle.sdd_schedule.specs.world.Represents.{EndsBy, Represents}
 pub use Rattle.sdd_schedule.specs.world.sites.Standings.{standing_at_t, standing_at_u}

@@ -2,8 +2,8 @@
 use Rattle.sdd_progress.specs.obligations.logs.Entries.{Input, Log, history}
 use Rattle.sdd_progress.specs.obligations.serial_orders.SerialOrder.{serial_order}
 use Rattle.sdd_report.specs.Report.{Report}
-use Rattle.sdd_schedule.specs.world.Copies.{tables_of}
-use Rattle.sdd_schedule.specs.world.Pending.{pending_of}
+use Rattle.sdd_schedule.specs.Copies.{tables_of}
+use Rattle.sdd_schedule.specs.Pending.{pending_of}
 
 -- its records, the serial order of what is committed, what is pending, and the copies
 abbrev pub report_of : Input → Log → Report

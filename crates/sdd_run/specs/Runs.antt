@@ -34,7 +34,7 @@ use Rattle.sdd_report.specs.Report.{Report, after_replies, report_text}
 use Rattle.sdd_report.specs.Trace.{trace}
 use Rattle.sdd_report.specs.declared.copies.CopyTable.{CopyTable}
 use Rattle.sdd_script.specs.declared.workload.Workload.{Workload}
-use Rattle.sdd_schedule.specs.world.Copies.{rows_left}
+use Rattle.sdd_schedule.specs.Copies.{rows_left}
 use Rattle.sdd_run.specs.Clocks.{HasLowClocks}
 use Rattle.sdd_run.specs.ComesBefore.{ComesBefore, IsSubmittedBefore, times_in}
 use Rattle.sdd_run.specs.Free.{IsUndisturbed}

@@ -7,7 +7,7 @@ ghost use Rattle.sdd_report.specs.Report.{report_text as text_of};
 ghost use Rattle.sdd_script.specs.All.{IsValid};
 ghost use Rattle.sdd_run.specs.Reports.{report_of};
 ghost use Rattle.sdd_run.specs.Runs.{AreTables, EndsAtLimit, IsReportOn, IsSummaryOn};
-ghost use Rattle.sdd_schedule.specs.world.LastHomes.{AreAtLastHomes};
+ghost use Rattle.sdd_schedule.specs.LastHomes.{AreAtLastHomes};
 ghost use Rattle.sdd_schedule.specs.world.Represents.{Represents};
 
 use crate::era_lists::tables_of;

@@ -1,4 +1,7 @@
+pub mod Copies
 pub mod Events
+pub mod LastHomes
+pub mod Pending
 pub mod Places
 pub mod Schedules
 pub mod SoFar

@@ -121,7 +121,7 @@ pub use Rattle.sdd_run.specs.report.declared.pending.Why.TheVariants.{Queued, Un
 pub use Rattle.sdd_run.specs.script.Valid.{AssignsValue, HoldsValues, IsValid, IsValidEvent, IsValidRow, IsValidTxn, IsValue}
 pub use Rattle.sdd_run.specs.script.declared.workload.Workload.{Workload}
 pub use Rattle.sdd_run.specs.world.sites.AtSites.{standing_at}
-pub use Rattle.sdd_run.specs.world.Copies.{tables_of}
+pub use Rattle.sdd_run.specs.schedule.Copies.{tables_of}
 pub use Rattle.sdd_run.specs.world.sites.Standings.{standing_at_t, standing_at_u}
 pub use Rattle.sdd_words.proofs.Spelled.{cut_again}
 pub use Rattle.sdd_words.proofs.Splits.{scan_again}

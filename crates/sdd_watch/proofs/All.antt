@@ -86,8 +86,8 @@ pub use Rattle.sdd_schedule.proofs.EachEvent.{IsMarkedBetween, MarksNext, marked
 pub use Rattle.sdd_schedule.proofs.GivenMore.{round_more, scheduled_more}
 pub use Rattle.sdd_schedule.proofs.world.txn_module.Queueing.{represents_queues}
 pub use Rattle.sdd_schedule.proofs.world.sites.Failing.{handed_on}
-pub use Rattle.sdd_schedule.proofs.world.HomesExist.{no_txn, txn_read}
-pub use Rattle.sdd_schedule.proofs.world.Lists.{kept_to}
+pub use Rattle.sdd_schedule.proofs.HomesExist.{no_txn, txn_read}
+pub use Rattle.sdd_schedule.proofs.Lists.{kept_to}
 pub use Rattle.sdd_schedule.proofs.world.Results.{after_ok, of_ok}
 pub use Rattle.sdd_schedule.specs.world.attempts.Lines.{awaited_by, lacked_by, tries_of_first}
 pub use Rattle.sdd_schedule.specs.world.attempts.Sound.{IsLineOf, IsOfHead}
@@ -102,9 +102,9 @@ pub use Rattle.sdd_schedule.specs.Schedules.{with_events}
 pub use Rattle.sdd_schedule.specs.declared.turn.Turn.{Turn}
 pub use Rattle.sdd_schedule.specs.world.txn_module.Represents.{Queues}
 pub use Rattle.sdd_schedule.specs.world.sites.Beginnings.{AllBegin, BeginsD, IsBegun}
-pub use Rattle.sdd_schedule.specs.world.Copies.{tables_of}
+pub use Rattle.sdd_schedule.specs.Copies.{tables_of}
 pub use Rattle.sdd_schedule.specs.world.sites.Modules.{AllRepresent, LivesD, LivesT}
-pub use Rattle.sdd_schedule.specs.world.Pending.{commits}
+pub use Rattle.sdd_schedule.specs.Pending.{commits}
 pub use Rattle.sdd_schedule.specs.world.Represents.{Calm, Represents}
 pub use Rattle.sdd_schedule.specs.world.sites.declared.ends.WorldEnd.{WorldEnd}
 pub use Rattle.sdd_schedule.specs.world.sites.declared.sites.Sites.{Sites}

@@ -33,7 +33,7 @@ use Rattle.sdd_progress.specs.obligations.net.Links.{delivered, packet_at, unack
 use Rattle.sdd_progress.specs.obligations.net.declared.packet.Packet.{Packet}
 use Rattle.sdd_progress.specs.obligations.net.declared.packet.Packet.TheVariants.{Ack, Message}
 use Rattle.sdd_progress.specs.obligations.wire.declared.msg.Msg.{Msg}
-use Rattle.sdd_schedule.specs.world.Pending.{commits}
+use Rattle.sdd_schedule.specs.Pending.{commits}
 use Rattle.sdd_watch.specs.States.{state_of}
 -- where an event stands in the schedule
 pub use Rattle.sdd_schedule.specs.Places.{if_in_round, last_event, place_in, place_of_first, round_at, round_in, rounds, scheduled_at}

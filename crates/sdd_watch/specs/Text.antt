@@ -7,7 +7,7 @@ use Rattle.sdd_inside.specs.declared.delta.Delta.{Delta}
 use Rattle.sdd_progress.specs.obligations.catalog.Catalogue.{Catalogue, numbers_to}
 use Rattle.sdd_progress.specs.obligations.logs.Entries.{Input, Log, marks}
 use Rattle.sdd_progress.specs.obligations.logs.Lawful.{IsTheLog}
-use Rattle.sdd_schedule.specs.world.Copies.{tables_of}
+use Rattle.sdd_schedule.specs.Copies.{tables_of}
 use Rattle.sdd_watch.specs.Happens.{happened_at}
 use Rattle.sdd_watch.specs.Moments.{at_event, moment_of}
 

@@ -14,7 +14,7 @@ use Rattle.sdd_inside.specs.declared.delta.Taken.{Taken}
 use Rattle.sdd_inside.specs.declared.moment.LinkMoment.{LinkMoment}
 use Rattle.sdd_inside.specs.declared.moment.PipeMoment.{PipeMoment}
 use Rattle.sdd_inside.specs.declared.moment.QueueMoment.{QueueMoment}
-use Rattle.sdd_schedule.specs.world.Pending.{commits}
+use Rattle.sdd_schedule.specs.Pending.{commits}
 use Rattle.sdd_schedule.specs.declared.turn.Turn.{Turn}
 use Rattle.sdd_schedule.specs.world.Represents.{Calm}
 use Rattle.sdd_schedule.specs.world.declared.world.World.{World}

@@ -11,7 +11,7 @@ use crate::teller::Teller;
 use crate::watch::Watch;
 use sdd_inside::put_beginning;
 use sdd_progress::{Catalogue, Event, NoMemory};
-use sdd_schedule::{ClassList, World, WorldEnd, carry_out};
+use sdd_schedule::{ClassList, World, WorldEnd, carry_out, copy_tables};
 use std::alloc::Global;
 
 /// What is reported before the first event.
@@ -24,7 +24,7 @@ fn begin<'c>(
     ensures { IfOk result (λ teller. (g : Input) → Represents world.now g []
         → catalogue.now ≡ g.catalogue → Tells g [] teller) }
 {
-    let copies = world.tables(alloc)?;
+    let copies = copy_tables(alloc, world)?;
     let watch = Watch::new(alloc, catalogue, world)?;
     let mut text = Vec::new(alloc);
     put_beginning(

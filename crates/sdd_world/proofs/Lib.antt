@@ -16,9 +16,6 @@ pub mod Senders
 pub mod Rising
 pub mod Resuming
 pub mod Turning
-pub mod HomesExist
-pub mod Lists
-pub mod Outsiders
 pub mod Results
 pub use Rattle.sdd_sites.proofs as sites
 pub use Rattle.sdd_sites.proofs.attempts as attempts

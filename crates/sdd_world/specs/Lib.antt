@@ -1,8 +1,5 @@
 pub mod Following
 pub mod Represents
-pub mod Copies
-pub mod LastHomes
-pub mod Pending
 pub use Rattle.sdd_sites.specs as sites
 pub use Rattle.sdd_sites.specs.attempts as attempts
 pub use Rattle.sdd_sites.specs.exchange as exchange

@@ -2,8 +2,8 @@ use Rattle.sdd_watch.proofs.All.{[], beginning, ◌∙◌}
 use Rattle.sdd_watch.proofs.BeginsReport.{begins_report}
 use Rattle.sdd_watch.proofs.whole_text.begin.Goals as goal
 
-pub tables-requires : goal.tables-requires
-tables-requires c = let r = c.requires in (r.0, [], r.1)
+pub copy_tables-requires : goal.copy_tables-requires
+copy_tables-requires c = let r = c.requires in (r.0, [], r.1)
 
 pub new-requires : goal.new-requires
 new-requires c = let r = c.requires in (r.0, r.1.calm)
