@@ -1,3 +1,5 @@
+use Rattle.std.proofs.Common.{arith}
+use Rattle.std.proofs.lemmas.Grind.{common_steps}
 use Rattle.sdd_plain.proofs.All.{[], ap, as_of, deref_pair, entries_of, filter, iter_end, map, meets_all, ◌∙◌, ◌∷◌}
 use Rattle.sdd_plain.proofs.Near.{matching_rows}
 use Rattle.sdd_plain.proofs.rows.Rows.find_matching.Goals as goal
@@ -9,3 +11,9 @@ returns c =
     ∙ c.rows.invariant
     ∙ ap (λ es. map (as_of c.args.rel.0) (filter (λ e. meets_all c.args.conds.now (e.1 ∷ [])) es)) all
     ∙ matching_rows c.args.rel.0 c.args.conds.now c.args.self.now _ c.in_ok-items.ensures
+
+pub rows-preserved : goal.rows-preserved
+rows-preserved c = grind (arith, common_steps)
+
+pub rows-preserved-in_ok-push : goal.rows-preserved-in_ok-push
+rows-preserved-in_ok-push c = grind (arith, common_steps)

@@ -1,3 +1,5 @@
+use Rattle.std.proofs.Common.{arith}
+use Rattle.std.proofs.lemmas.Grind.{common_steps}
 use Rattle.sdd_plain.proofs.All.{ap, deref_pair, filter, iter_end, map, may_join, ◌∙◌}
 use Rattle.sdd_plain.proofs.Near.{part_rows}
 use Rattle.sdd_plain.proofs.rows.Rows.part.Goals as goal
@@ -8,3 +10,9 @@ returns c =
     c.rows.invariant
     ∙ ap (λ es. filter (may_join c.args.conds.now c.args.part) (map (λ e. e.1) es)) all
     ∙ part_rows c.args.rel.0 c.args.part c.args.conds.now c.args.self.now _ c.in_ok-items.ensures
+
+pub rows-preserved : goal.rows-preserved
+rows-preserved c = grind (arith, common_steps)
+
+pub rows-preserved-in-Continue-branch-2 : goal.rows-preserved-in-Continue-branch-2
+rows-preserved-in-Continue-branch-2 c = grind (arith, common_steps)

@@ -1,0 +1,6 @@
+use Rattle.std.proofs.Common.{arith}
+use Rattle.std.proofs.lemmas.Grind.{common_steps}
+use Rattle.sdd_plain.proofs.rows.Rows.apply.Goals as goal
+
+pub returns : goal.returns
+returns c = grind (arith, common_steps)
