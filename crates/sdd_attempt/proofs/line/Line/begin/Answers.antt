@@ -1,3 +1,4 @@
+use Rattle.std.proofs.lemmas.Grind.{common_steps}
 use Rattle.sdd_attempt.proofs.All.{IsLine, Line, None, [], ap, arith, get_or, length, line_done, line_of, option_map, start_next, subst, sym, unwrap_or, ◌<◌, ◌∙◌, ◌≡◌}
 use Rattle.sdd_attempt.proofs.Queueing.{begun_at, begun_seen}
 use Rattle.sdd_attempt.proofs.line.Line.begin.Goals as goal
@@ -26,3 +27,9 @@ returns-in_ok-running-in-Some-clause-line c =
     ∙ begun_seen s.catalogue.now s.class.0 table c.args.clock.now s.queue.items c.in-Some.queued.now c.add_try.new.self s.running c.in_ok-running-in-Some.running
     c.self.invariant c.in-Some.ensures.item.3.0 c.in-Some.ensures.value c.add_try.ensures c.in_ok-running-in-Some.ensures.running idle
     ∙ ap (λ (l : Line). line_done (start_next table c.args.clock.now l) l) c.self.view_is
+
+pub returns-in_ok-running-in-Some-clause-clock : goal.returns-in_ok-running-in-Some-clause-clock
+returns-in_ok-running-in-Some-clause-clock c = grind (arith, common_steps)
+
+pub returns-in_ok-running-in-Some-clause-draft : goal.returns-in_ok-running-in-Some-clause-draft
+returns-in_ok-running-in-Some-clause-draft c = grind (arith, common_steps)
