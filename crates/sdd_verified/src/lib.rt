@@ -17,7 +17,5 @@ pub use text_law::law_one_text;
 
 // What lies below, for the crates above.
 pub use sdd_run::{
-    Counts, StartRows, WorkError, WorkFault, WorkRule, Workload, WorldEnd, bank,
-    law_workload_allowed, put_reply, read_workload, run_report, run_summary, workload,
+    Workload, WorldEnd, bank, law_workload_allowed, run_report, run_summary, workload,
 };
-pub use sdd_verify::{MAX_REPORT_BYTES, Verdict, verify};
