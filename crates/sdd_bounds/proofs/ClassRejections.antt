@@ -1,7 +1,7 @@
 -- All rejected attempts of a class are at most the committed transactions of other classes: each but the last is followed by
 -- another attempt of the class, and so has a writer with a timestamp between theirs; and so has the last, by its Reject.
 use Rattle.sdd_bounds.proofs.All.{AreFewRejectedOfClasses, Bool, Catalogue, Committed, Eras, HasCommit, History, IsAttempt, IsCommitted, IsRecordAt, IsRejectAt, KeepsRejections, KeepsRejects, KeepsStarts, List, None, Option, Reject, Rec, Some, Start, StartedBefore, Txn, [], and_parts, any_at, ap, arith, cases_Bool, cases_lt, catalogue_at, class_no, committed_elsewhere, cond, dm_no, eq-eqb, eqb-true, event_at, false, false≢true, filter, inl, inr, is_reject_of, is_rejected, is_rejected_of_class, length, low_of_condition, low_time, one_attempt, one_start, option_map, other_class, refl, rejected_of_class, same_Some, same_start, slice_get, subst, suc, sym, take, take_all, time_at, true, txn_no, zero, ℕ, ◌&&◌, ◌+◌, ◌<◌, ◌==◌, ◌∙◌, ◌∷◌, ◌≡◌, ◌≢◌, ◌≤◌, ◌⊎◌}
-use Rattle.sdd_obligations.specs.links.Attempts.{Attempt}
+use Rattle.sdd_progress.specs.obligations.links.Attempts.{Attempt}
 use Rattle.sdd_bounds.proofs.ClassWriters.{AreWriters, few_writers, writers_up}
 use Rattle.sdd_bounds.proofs.OneAfterOther.{IsWriterOver, between, low_rises}
 

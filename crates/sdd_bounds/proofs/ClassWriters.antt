@@ -1,7 +1,7 @@
 -- The writers by which attempts of a class are rejected: each is of another class, and has a later timestamp than those before.
 use Rattle.sdd_bounds.proofs.All.{AllByRecursion, Bool, Committed, Contains, Contains-cases, Contains-nil, History, IsAttempt, IsCommitted, IsDistinct-cons, List, [], ap, arith, cases_Bool, committed, committed_elsewhere, cond, eq-eqb, eqb, eqb-true, false, filter, in_committed, inl, inr, length, length-le_from_is_member, length-map, list_any, map, nat_eq_equiv, ne_eqb, not, refl, subst, suc, sym, true, ℕ, ◌<◌, ◌==◌, ◌∙◌, ◌||◌, ◌∷◌, ◌≡◌, ◌≢◌, ◌≤◌}
 use Rattle.std.specs.List.{IsDistinct}
-use Rattle.sdd_obligations.specs.links.Attempts.{Attempt}
+use Rattle.sdd_progress.specs.obligations.links.Attempts.{Attempt}
 
 -- committed transactions of other classes than c, whose timestamps fall, the first one below the bound
 abbrev pub AreWriters : History → ℕ → ℕ → List Committed → Type 0

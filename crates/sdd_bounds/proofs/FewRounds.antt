@@ -1,6 +1,6 @@
 -- A settle has few rounds: of four in a row, after which another begins, one puts a message.
 use Rattle.sdd_bounds.proofs.All.{Act, Bool, Call, Deliver, Does, Entry, Event, Hand, Input, IsLawful, List, Log, Lose, Mark, Msg, Notes, Redeclare, Redeclares, Repeat, Resend, Round, Settle, Site, Some, Submitted, [], after_mark, all_links, ap, append-nil, append_assoc, arith, calls_by, calls_of, dec_le, false, false≢true, from_event, left, length, mark_from, mark_of, next, next_is_of_events, puts, quiet, refl, round, rounds, same_Some, sends_of_act, subst, suc, sym, tail_of, true, zero, ℕ, ◌*◌, ◌++◌, ◌+◌, ◌∙◌, ◌∷◌, ◌≡◌, ◌≤◌}
-use Rattle.sdd_obligations.proofs.logs.AsLists.{events_left}
+use Rattle.sdd_progress.proofs.obligations.logs.AsLists.{events_left}
 use Rattle.sdd_bounds.proofs.NextRound.{AreAtStage, after_round, carried_append, none_yet, quiet_at_last}
 use Rattle.sdd_bounds.specs.RoundsOnLinks.{all_carried_out, carried_out}
 use Rattle.sdd_bounds.specs.SettleRounds.{AreBetweenEvents, HasFewRounds, messages_put}

@@ -1,7 +1,7 @@
 -- Two attempts of a class that start one after the other, where the first is rejected: the second is of the same transaction,
 -- and its time is above the writer's by which the first was rejected.
 use Rattle.sdd_bounds.proofs.All.{Catalogue, Change, Commit, Committed, Eras, HasCommit, History, IsAgain, IsAttempt, IsCommitted, IsConditionOf, IsRecordAt, IsSubmitted, KeepsRejections, KeepsStarts, List, None, Option, Reply, Some, StartedBefore, Ts, Txn, ap, arith, catalogue_at, cases_Bool, cases_lt, class_for, eq-eqb, eqb-true, event_at, false≢true, inl, inr, is_rejected, low_of_condition, low_time, one_attempt, one_class, one_start, option_map, other_class, p2_time, refl, same_Some, same_start, start_counts, starts_before, subst, suc, sym, true, txn_no, unwrap_or, ℕ, ◌<◌, ◌==◌, ◌∙◌, ◌≡◌, ◌≢◌, ◌≤◌, ◌⊎◌}
-use Rattle.sdd_obligations.specs.links.Attempts.{Attempt}
+use Rattle.sdd_progress.specs.obligations.links.Attempts.{Attempt}
 
 -- one record at a place submits one transaction, and commits one attempt
 

@@ -1,7 +1,7 @@
 -- A committed attempt is rejected nowhere: each module that it asks answered it, and a module processes a READ once.
 use Rattle.sdd_bounds.proofs.All.{Act, Answer, ClassNo, Committed, Cond, D, Did, DmNo, Does, Input, IsCommitted, IsDataIn, IsPermitted, IsRejectAt, IsSoundCatalogue, List, Log, Msg, Pipe, Read, Rec, Records, Reject, Setting, Site, Some, Ts, TxnNo, Use, [], allowed_act, ap, append_assoc, arith, ascending, class_no, class_puts, commit_act, commit_answered, committed_in, compare, contains, d_step, data_in, dm_no, eq-eqb, fragments_in, further_back, head, head_place, history, home, home_of, home_small, inl, inr, is_processing, length, length-append, local_grows, local_of, modules_of, number_of, one_of_key, own_act, own_record, permitted_before, pipe, pipe_at, processed_grows, processed_more, read_at, read_msg, read_of, read_of_some, reads_strict, refl, rejecting, same_attempt, setting_of, slice_get, subst, sym, time_at, true, txn_no, uses_of, ℕ, ◌++◌, ◌<◌, ◌==◌, ◌∙◌, ◌∷◌, ◌≡◌, ◌≤◌}
-use Rattle.sdd_obligations.specs.links.Attempts.{Attempt}
-use Rattle.sdd_obligations.specs.site_module.SiteLog as site
+use Rattle.sdd_progress.specs.obligations.links.Attempts.{Attempt}
+use Rattle.sdd_progress.specs.obligations.site_module.SiteLog as site
 
 -- a record by which a module processes the READ of a class with a timestamp
 record IsReadProcessed (g : Input) (log : Log) (d : DmNo) (c ts : ℕ) (r : Rec) : Type 0 where

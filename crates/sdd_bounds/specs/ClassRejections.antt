@@ -1,8 +1,8 @@
 -- How many attempts of a class are rejected, all of its transactions together.
 use Rattle.std.specs.Prelude.{ℕ, ◌≤◌, ◌==◌, ◌&&◌, ◌≡◌, Bool, false, not, [], ◌∷◌, length, filter, None, refl}
-use Rattle.sdd_obligations.specs.All.{Commit, History, Rec, Reject, Start, class_no, dm_no, time_at, txn_no}
-use Rattle.sdd_obligations.specs.base.declared.reply.Reply.TheVariants.{Overflow}
-use Rattle.sdd_obligations.specs.links.Attempts.{committed}
+use Rattle.sdd_progress.specs.obligations.All.{Commit, History, Rec, Reject, Start, class_no, dm_no, time_at, txn_no}
+use Rattle.sdd_progress.specs.obligations.base.declared.reply.Reply.TheVariants.{Overflow}
+use Rattle.sdd_progress.specs.obligations.links.Attempts.{committed}
 use Rattle.sdd_progress.specs.Few.{is_rejected}
 
 -- the Starts of the class whose attempts some module rejects: one each, however many modules reject the attempt

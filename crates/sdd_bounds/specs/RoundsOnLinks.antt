@@ -1,7 +1,7 @@
 -- What rounds in which nothing is put do on the links.
 use Rattle.std.specs.Prelude.{ℕ, zero, suc, false, true, List, [], ◌∷◌, ◌≡◌, refl}
-use Rattle.sdd_obligations.specs.All.{Call, Deliver, Delivers, Event, Lose, Loses, Puts, Repeat, Repeats, Resend, Resends, Site, quiet, round}
-use Rattle.sdd_obligations.specs.net.Links.{d1, t1}
+use Rattle.sdd_progress.specs.obligations.All.{Call, Deliver, Delivers, Event, Lose, Loses, Puts, Repeat, Repeats, Resend, Resends, Site, quiet, round}
+use Rattle.sdd_progress.specs.obligations.net.Links.{d1, t1}
 
 -- the calls with that of an event of the network
 abbrev pub carried_out : {M : Type 0} → Event → List (Call M) → List (Call M)

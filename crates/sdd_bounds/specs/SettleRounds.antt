@@ -1,7 +1,7 @@
 -- How many rounds a settle has: no more than follow from the messages that are put within it.
 use Rattle.std.specs.Prelude.{ℕ, suc, ◌*◌, ◌+◌, ◌≡◌, ◌≤◌, [], ◌∷◌, ◌++◌, length}
-use Rattle.sdd_obligations.specs.All.{Does, Input, Log, sends_of_act}
-use Rattle.sdd_obligations.specs.logs.Marks.{ahead, events_ahead}
+use Rattle.sdd_progress.specs.obligations.All.{Does, Input, Log, sends_of_act}
+use Rattle.sdd_progress.specs.obligations.logs.Marks.{ahead, events_ahead}
 use Rattle.sdd_progress.specs.Rounds.{rounds}
 
 -- how many messages the sites put on links

@@ -1,5 +1,5 @@
 ghost use Rattle.std.specs.Prelude.{◌≡◌, false};
-ghost use Rattle.sdd_obligations.specs.All.{AreSubmittedOnce, Committed, Eras, Input, IsCommitted, IsEra, IsLawful, IsPermitted, Log, history, nth_era, redeclares};
+ghost use Rattle.sdd_progress.specs.obligations.All.{AreSubmittedOnce, Committed, Eras, Input, IsCommitted, IsEra, IsLawful, IsPermitted, Log, history, nth_era, redeclares};
 ghost use Rattle.sdd_progress.specs.Few.{is_rejected};
 ghost use Rattle.sdd_progress.specs.lawful.SoundInput.{AreErasOf, IsSoundInput};
 ghost use Rattle.sdd_bounds.specs.ClassRejections.{AreFewRejectedOfClasses};

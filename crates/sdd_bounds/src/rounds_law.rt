@@ -1,6 +1,6 @@
 ghost use Rattle.std.specs.Prelude.{◌≡◌, ◌≤◌, ◌*◌, ◌+◌, ◌++◌, ◌∷◌, ℕ, suc, true, List};
-ghost use Rattle.sdd_obligations.specs.All.{Call, Event, Input, IsLawful, Log, Msg, Settle, links, quiet};
-ghost use Rattle.sdd_obligations.specs.logs.Marks.{BetweenRounds, ahead, events_ahead};
+ghost use Rattle.sdd_progress.specs.obligations.All.{Call, Event, Input, IsLawful, Log, Msg, Settle, links, quiet};
+ghost use Rattle.sdd_progress.specs.obligations.logs.Marks.{BetweenRounds, ahead, events_ahead};
 ghost use Rattle.sdd_progress.specs.Rounds.{rounds};
 ghost use Rattle.sdd_bounds.specs.RoundsOnLinks.{after_rounds};
 ghost use Rattle.sdd_bounds.specs.SettleRounds.{AreBetweenEvents, HasFewRounds, messages_put};

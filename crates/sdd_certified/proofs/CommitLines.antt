@@ -5,8 +5,8 @@ use Rattle.std.proofs.lemmas.List.Splits.{slice_split_at, slice_split_none}
 use Rattle.std.specs.Fmt.{decimal, digit_glyph, digits, digits_onto}
 use Rattle.sdd_certify.specs.Told.{commit_on, name_in, named_behind}
 use Rattle.sdd_certify.specs.verifying.Orders.{words_of}
-use Rattle.sdd_obligations.specs.All.{Catalogue, Rec, Txn}
-use Rattle.sdd_obligations.specs.history.declared.record.Rec.TheVariants as records
+use Rattle.sdd_verified.specs.run.progress.obligations.All.{Catalogue, Rec, Txn}
+use Rattle.sdd_verified.specs.run.progress.obligations.history.declared.record.Rec.TheVariants as records
 use Rattle.sdd_verified.specs.report.Names.{attempt_word, class_time, class_word, module_word, spaced, txn_name}
 use Rattle.sdd_verified.specs.report.Trace.{cond_words, record_words, time_word}
 use Rattle.sdd_verified.specs.script.All.{HasNoSpace, IsName}

@@ -9,10 +9,10 @@ use Rattle.sdd_certify.specs.verifying.declared.limits.TheConstants.{MAX_REPORT_
 use Rattle.sdd_certify.proofs.CompleteMeans.{complete_again}
 use Rattle.sdd_certify.proofs.verifying.Submissions.{some_is}
 use Rattle.sdd_certify.proofs.verifying.OrderWords.{HaveNoSpace, is_order_line_again, names_again}
-use Rattle.sdd_obligations.specs.All.{Catalogue, Commit, Committed, History, IsCommitted, IsRecordAt, Rec, Txn, TxnNo, history, txn_no}
-use Rattle.sdd_obligations.specs.catalog.Naming.{AreNamed}
-use Rattle.sdd_obligations.specs.history.declared.record.Rec.TheVariants as records
-use Rattle.sdd_obligations.specs.links.Attempts.{HasCommit}
+use Rattle.sdd_verified.specs.run.progress.obligations.All.{Catalogue, Commit, Committed, History, IsCommitted, IsRecordAt, Rec, Txn, TxnNo, history, txn_no}
+use Rattle.sdd_verified.specs.run.progress.obligations.catalog.Naming.{AreNamed}
+use Rattle.sdd_verified.specs.run.progress.obligations.history.declared.record.Rec.TheVariants as records
+use Rattle.sdd_verified.specs.run.progress.obligations.links.Attempts.{HasCommit}
 use Rattle.sdd_verified.specs.run.class_lists.InForce.{whole_in}
 use Rattle.sdd_verified.specs.run.Reports.{report_of}
 use Rattle.sdd_verified.specs.run.Runs.{IsReportOn, input_of, order_of, plain_run}

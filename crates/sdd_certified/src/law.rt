@@ -6,7 +6,7 @@ ghost use Rattle.sdd_verified.specs.run.Runs.{IsReportOn};
 ghost use Rattle.sdd_verified.specs.script.Valid.{IsValid};
 ghost use Rattle.sdd_verified.specs.script.declared.workload.Workload.{Workload};
 
-use sdd_obligations::Catalogue;
+use sdd_lang::Catalogue;
 
 /// The report on the run of a workload is found complete, where it isn't too long to be judged,
 /// whatever class lists the workload puts in force. Takes no time and no memory.

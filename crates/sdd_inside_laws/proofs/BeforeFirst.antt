@@ -10,7 +10,7 @@ use Rattle.sdd_app_inside.proofs.watch.obligations.logs.Completing.{OnlyMarksAre
 use Rattle.sdd_app_inside.proofs.watch.obligations.logs.FirstHand.{none_to_hand}
 use Rattle.sdd_app_inside.specs.watch.obligations.All.{D, Entry, Event, Input, IsLawful, Log, Mark, Msg, Redeclare, Redeclares, Settle, Site, T, U, all_links, class_no, home, local_of, mark_from, mark_of, marks, next, queue, quiet, round, setting_of, txn_no}
 use Rattle.sdd_app_inside.proofs.watch.EachEvent.{lawful_at}
-use Rattle.sdd_app_inside.specs.watch.Moments.{at_event}
+use Rattle.sdd_app_inside.specs.watch.moments.Moments.{at_event}
 
 -- at first all links are quiet, so what is next is an event
 

@@ -18,7 +18,7 @@ use Rattle.sdd_inside_read.specs.Small.{HasSmallNumbers}
 use Rattle.sdd_inside_read.specs.Told.{Told, told}
 use Rattle.sdd_app_inside.specs.watch.obligations.All.{Input, IsGood, IsTheLog, Log, marks, numbers_to}
 use Rattle.sdd_app_inside.proofs.watch.EachEvent.{at_self}
-use Rattle.sdd_app_inside.specs.watch.Moments.{at_event}
+use Rattle.sdd_app_inside.specs.watch.moments.Moments.{at_event}
 use Rattle.sdd_app_inside.specs.watch.Text.{change}
 use Rattle.sdd_app_inside.specs.run.schedule.Copies.{tables_of}
 

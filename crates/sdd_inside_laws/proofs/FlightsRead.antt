@@ -10,9 +10,10 @@ use Rattle.sdd_inside.specs.declared.delta.Found.{Found}
 use Rattle.sdd_inside_laws.proofs.FlightsLeft.{Begins, deliver_back, deliver_there, kept_if, lose_back, lose_there, plain_way, put_way, repeat_back, repeat_there, resend_there, same_flight, taking_way}
 use Rattle.sdd_inside_laws.proofs.PacketsRead.{fewer}
 use Rattle.sdd_inside_laws.specs.Reader.{place_in}
-use Rattle.sdd_app_inside.proofs.watch.Between.{last_is, same_link}
-use Rattle.sdd_app_inside.specs.watch.Happens.{arrived_by, found_by, last_event, lost_by}
-use Rattle.sdd_app_inside.specs.watch.Watching.{IsBetween, IsMark, is_taken, left_between, left_of}
+use Rattle.sdd_app_inside.proofs.watch.moments.Between.{last_is, same_link}
+use Rattle.sdd_app_inside.specs.watch.moments.AtEvent.{arrived_by, found_by, last_event, lost_by}
+use Rattle.sdd_app_inside.specs.watch.moments.Changing.{IsBetween, is_taken, left_between, left_of}
+use Rattle.sdd_app_inside.specs.watch.Watching.{IsMark}
 
 -- the packets that an event leaves of a flight
 abbrev pub kept_by : Event → Found → Site × Site → List (Packet Msg) → List (Packet Msg)

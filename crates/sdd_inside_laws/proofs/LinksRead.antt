@@ -14,13 +14,14 @@ use Rattle.sdd_inside_laws.proofs.FlightsRead.{as_many_left, kept_between, link_
 use Rattle.sdd_inside_laws.proofs.FoundIn.{found_in}
 use Rattle.sdd_inside_laws.proofs.PacketsRead.{all_fly, each_change, new_messages}
 use Rattle.sdd_inside_laws.specs.Reader.{flight_left, flying, handed_on, is_handed_on, is_put_on, known_link, place_in, put_on, read_link, told}
-use Rattle.sdd_app_inside.proofs.watch.Between.{link_grows}
-use Rattle.sdd_app_inside.proofs.watch.Came.{here, that_one}
-use Rattle.sdd_app_inside.proofs.watch.Flights.{is_above}
-use Rattle.sdd_app_inside.specs.watch.Happens.{found_by, happened_at, last_event, taken}
-use Rattle.sdd_app_inside.specs.watch.Moments.{link_moment}
+use Rattle.sdd_app_inside.proofs.watch.moments.Between.{link_grows}
+use Rattle.sdd_app_inside.proofs.watch.moments.Came.{here, that_one}
+use Rattle.sdd_app_inside.proofs.watch.moments.Flights.{is_above}
+use Rattle.sdd_app_inside.specs.watch.moments.AtEvent.{found_by, last_event, taken}
+use Rattle.sdd_app_inside.specs.watch.Happens.{happened_at}
+use Rattle.sdd_app_inside.specs.watch.moments.Moments.{link_moment}
 use Rattle.sdd_app_inside.specs.watch.Text.{change}
-use Rattle.sdd_app_inside.specs.watch.Watching.{IsBetween, is_taken, left_between}
+use Rattle.sdd_app_inside.specs.watch.moments.Changing.{IsBetween, is_taken, left_between}
 
 self_is : (a b : Site) → (same_site a a && same_site b b) ≡ true
 self_is a b = rw (site_self a, site_self b) refl

@@ -14,7 +14,7 @@ use Rattle.sdd_inside_laws.specs.TextReader.{AreOfCatalogue}
 use Rattle.sdd_app_inside.proofs.watch.obligations.invariants.Lists.{in_filtered, in_range}
 use Rattle.sdd_app_inside.specs.watch.obligations.All.{Input, Log, T, class_at, numbers_to, runs, setting_of, tm_no}
 use Rattle.sdd_app_inside.specs.watch.Happens.{happened_at}
-use Rattle.sdd_app_inside.specs.watch.Moments.{all_pipes, pipe_moment, queues_of}
+use Rattle.sdd_app_inside.specs.watch.moments.Moments.{all_pipes, pipe_moment, queues_of}
 use Rattle.sdd_app_inside.specs.watch.Text.{change}
 
 -- what holds of each image, and of each item of what is put together

@@ -7,8 +7,8 @@ use Rattle.sdd_app_inside.specs.watch.obligations.net.Links.{numbered, without_a
 use Rattle.sdd_inside.specs.Differences.{changes, in_flight}
 use Rattle.sdd_inside.specs.declared.delta.InFlight.TheVariants.{Again, First}
 use Rattle.sdd_inside_laws.specs.Reader.{flying, told}
-use Rattle.sdd_app_inside.proofs.watch.Flights.{is_above}
-use Rattle.sdd_app_inside.specs.watch.Happens.{taken}
+use Rattle.sdd_app_inside.proofs.watch.moments.Flights.{is_above}
+use Rattle.sdd_app_inside.specs.watch.moments.AtEvent.{taken}
 
 -- as it stands in the flight
 

@@ -18,13 +18,13 @@ use Rattle.sdd_inside_laws.proofs.FoundIn.{found_in}
 use Rattle.sdd_inside_laws.proofs.PacketsRead.{each_change}
 use Rattle.sdd_inside_laws.proofs.Parts.{moved_on, same_fronts, same_rests}
 use Rattle.sdd_inside_laws.specs.Reader.{KnownPipe, is_pipe_of, known_pipe, pipe_moved, read_pipe}
-use Rattle.sdd_app_inside.proofs.watch.Between.{joined_more}
-use Rattle.sdd_app_inside.proofs.watch.Came.{all_came, handed_parts}
+use Rattle.sdd_app_inside.proofs.watch.moments.Between.{joined_more}
+use Rattle.sdd_app_inside.proofs.watch.moments.Came.{all_came, handed_parts}
 use Rattle.sdd_inside_laws.proofs.PipesThere.{pipe_there}
 use Rattle.sdd_app_inside.specs.watch.Happens.{happened_at}
-use Rattle.sdd_app_inside.specs.watch.Moments.{all_pipes, came, handed_on, number_through, passed_to, pipe_moment, source, time_passed}
+use Rattle.sdd_app_inside.specs.watch.moments.Moments.{all_pipes, came, handed_on, number_through, passed_to, pipe_moment, source, time_passed}
 use Rattle.sdd_app_inside.specs.watch.Text.{change}
-use Rattle.sdd_app_inside.specs.watch.Watching.{IsBetween, handed_over}
+use Rattle.sdd_app_inside.specs.watch.moments.Changing.{IsBetween, handed_over}
 
 nothing_in : {A : Type 0} (xs : List A) → is_empty xs ≡ true → xs ≡ []
 nothing_in [] h = refl

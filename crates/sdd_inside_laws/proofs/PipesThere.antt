@@ -6,8 +6,8 @@ use Rattle.sdd_app_inside.proofs.watch.obligations.invariants.Lists.{in_either, 
 use Rattle.sdd_app_inside.proofs.watch.obligations.tm.Lists.{of_map as in_mapped}
 use Rattle.sdd_app_inside.specs.watch.obligations.All.{D, Input, IsSiteOf, dm_no, numbers_to, setting_of}
 use Rattle.sdd_app_inside.specs.watch.obligations.dm.Copies.{classes_of}
-use Rattle.sdd_app_inside.specs.watch.Moments.{all_pipes, pipes_at_module}
-use Rattle.sdd_app_inside.proofs.watch.PipesVisited.{IsPipeOf}
+use Rattle.sdd_app_inside.specs.watch.moments.Moments.{all_pipes, pipes_at_module}
+use Rattle.sdd_app_inside.proofs.watch.moments.PipesVisited.{IsPipeOf}
 
 pub at_flat : {A B : Type 0} (f : A → List B) (Q : B → Type 0) (xs : List A)
     → ((k : ℕ) (x : A) → slice_get xs k ≡ Some x → (j : ℕ) (y : B) → slice_get (f x) j ≡ Some y → Q y)

@@ -20,11 +20,11 @@ use Rattle.sdd_inside_laws.proofs.Parts.{same_members}
 use Rattle.sdd_inside_laws.proofs.QueueMoves.{all_differ, numbers, queue_moved}
 use Rattle.sdd_inside_laws.proofs.QueueNumbers.{queue_told}
 use Rattle.sdd_inside_laws.specs.Reader.{is_queue_of, queue_classes, queue_moved as moved_by, read_queue}
-use Rattle.sdd_app_inside.proofs.watch.Between.{joined_more}
+use Rattle.sdd_app_inside.proofs.watch.moments.Between.{joined_more}
 use Rattle.sdd_app_inside.specs.watch.Happens.{happened_at}
-use Rattle.sdd_app_inside.specs.watch.Moments.{queue_moment, queues_at, queues_of}
+use Rattle.sdd_app_inside.specs.watch.moments.Moments.{queue_moment, queues_at, queues_of}
 use Rattle.sdd_app_inside.specs.watch.Text.{change}
-use Rattle.sdd_app_inside.specs.watch.Watching.{IsBetween}
+use Rattle.sdd_app_inside.specs.watch.moments.Changing.{IsBetween}
 
 -- the queues, by their classes alone
 

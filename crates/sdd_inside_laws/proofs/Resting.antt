@@ -15,7 +15,7 @@ use Rattle.sdd_app_inside.specs.watch.obligations.site_module.SiteLog.{Did, Hand
 use Rattle.sdd_app_inside.proofs.watch.EachEvent.{event_of, lawful_at, at_self, marks_next}
 use Rattle.sdd_app_inside.proofs.run.progress.Handed.{link_there}
 use Rattle.sdd_app_inside.proofs.run.progress.Lists.{none_at}
-use Rattle.sdd_app_inside.specs.watch.Moments.{at_event}
+use Rattle.sdd_app_inside.specs.watch.moments.Moments.{at_event}
 
 -- what a mark makes due, what a site does and what is handed over marks no event
 

@@ -17,7 +17,7 @@ use Rattle.sdd_app_inside.specs.watch.obligations.All.{Catalogue, Input, IsGood,
 use Rattle.sdd_app_inside.proofs.watch.EachEvent.{at_self}
 use Rattle.sdd_app_inside.proofs.run.Goods.{good_along}
 use Rattle.sdd_app_inside.proofs.run.class_lists.WholeSound.{whole_sound}
-use Rattle.sdd_app_inside.specs.watch.Moments.{at_event}
+use Rattle.sdd_app_inside.specs.watch.moments.Moments.{at_event}
 use Rattle.sdd_app_inside.specs.Text.{IsInsideOf}
 use Rattle.sdd_app_inside.specs.watch.Text.{change, inside_text}
 use Rattle.sdd_app_inside.specs.watch.obligations.protocol.declared.entry.Entry.{Entry}

@@ -20,7 +20,7 @@ use Rattle.sdd_app_inside.proofs.run.Goods.{few_ticks}
 use Rattle.sdd_app_inside.proofs.run.Submissions.{once}
 use Rattle.sdd_app_inside.proofs.run.Whole.{events_valid}
 use Rattle.sdd_app_inside.proofs.run.class_lists.WholeSound.{whole_sound}
-use Rattle.sdd_app_inside.specs.watch.Moments.{at_event}
+use Rattle.sdd_app_inside.specs.watch.moments.Moments.{at_event}
 use Rattle.sdd_app_inside.specs.run.Runs.{AreTables, input_of}
 use Rattle.sdd_app_inside.specs.run.class_lists.InForce.{whole_in}
 use Rattle.sdd_app_inside.specs.run.script.Valid.{IsSite, IsValid, IsValidEvent}

@@ -19,9 +19,9 @@ use Rattle.sdd_app_inside.proofs.watch.obligations.net.Sound.{delivered_le, soun
 use Rattle.sdd_app_inside.specs.watch.obligations.All.{Ack, Input, IsGood, IsPermitted, Log, MAX_LINK_MESSAGES, Message, Msg, Packet, Site, all_links, calls_of, is_link, link_of, sent}
 use Rattle.sdd_app_inside.specs.watch.obligations.net.Sound.{IsOf}
 use Rattle.sdd_app_inside.specs.watch.Happens.{happened_at}
-use Rattle.sdd_app_inside.specs.watch.Moments.{link_moment}
+use Rattle.sdd_app_inside.specs.watch.moments.Moments.{link_moment}
 use Rattle.sdd_app_inside.specs.watch.Text.{change}
-use Rattle.sdd_app_inside.specs.watch.Watching.{IsBetween}
+use Rattle.sdd_app_inside.specs.watch.moments.Changing.{IsBetween}
 
 -- packets
 

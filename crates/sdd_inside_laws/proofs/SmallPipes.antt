@@ -23,12 +23,12 @@ use Rattle.sdd_app_inside.specs.watch.obligations.invariants.All.{AllLt, all_of}
 use Rattle.sdd_app_inside.specs.watch.obligations.logs.Lawful.{IsWithin}
 use Rattle.sdd_app_inside.specs.watch.obligations.net.Links.{numbered}
 use Rattle.sdd_app_inside.specs.watch.obligations.pipe.Pipe.{greatest, raised}
-use Rattle.sdd_app_inside.proofs.watch.Came.{all_came}
-use Rattle.sdd_app_inside.proofs.watch.Unapplied.{take_numbered}
+use Rattle.sdd_app_inside.proofs.watch.moments.Came.{all_came}
+use Rattle.sdd_app_inside.proofs.watch.moments.Numbered.{take_numbered}
 use Rattle.sdd_app_inside.specs.watch.Happens.{happened_at}
-use Rattle.sdd_app_inside.specs.watch.Moments.{all_pipes, came, number_through, pipe_moment, source, time_passed}
+use Rattle.sdd_app_inside.specs.watch.moments.Moments.{all_pipes, came, number_through, pipe_moment, source, time_passed}
 use Rattle.sdd_app_inside.specs.watch.Text.{change}
-use Rattle.sdd_app_inside.specs.watch.Watching.{IsBetween}
+use Rattle.sdd_app_inside.specs.watch.moments.Changing.{IsBetween}
 
 -- numbers of messages
 

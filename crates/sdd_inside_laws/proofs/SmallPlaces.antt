@@ -14,10 +14,11 @@ use Rattle.sdd_app_inside.specs.watch.obligations.base.Words.{tail_of}
 use Rattle.sdd_app_inside.specs.watch.obligations.logs.Entries.{Round}
 use Rattle.sdd_app_inside.specs.watch.obligations.logs.Marks.{Ahead, BetweenRounds, InRound, ahead, events_ahead, from_event, greatest_bound, mark_ahead, mark_between, once_marked, once_quiet, with_round}
 use Rattle.sdd_app_inside.specs.watch.obligations.net.Links.{round}
-use Rattle.sdd_app_inside.proofs.watch.Between.{last_is}
-use Rattle.sdd_app_inside.specs.watch.Happens.{found_by, last_event}
+use Rattle.sdd_app_inside.proofs.watch.moments.Between.{last_is}
+use Rattle.sdd_app_inside.specs.watch.moments.AtEvent.{found_by, last_event}
 use Rattle.sdd_app_inside.specs.watch.Text.{change}
-use Rattle.sdd_app_inside.specs.watch.Watching.{IsBetween, IsMark}
+use Rattle.sdd_app_inside.specs.watch.moments.Changing.{IsBetween}
+use Rattle.sdd_app_inside.specs.watch.Watching.{IsMark}
 
 -- the sites and the place of an event that may take a packet have numbers of 64 bits
 abbrev pub NamesSmall : Event → Type 0

@@ -19,9 +19,9 @@ use Rattle.sdd_app_inside.specs.watch.obligations.attempt.Queues.{Queued, is_for
 use Rattle.sdd_app_inside.specs.watch.obligations.site_module.SiteLog as site
 use Rattle.sdd_app_inside.specs.watch.obligations.site_module.SiteLog.{submits}
 use Rattle.sdd_app_inside.specs.watch.Happens.{happened_at}
-use Rattle.sdd_app_inside.specs.watch.Moments.{queues_of}
+use Rattle.sdd_app_inside.specs.watch.moments.Moments.{queues_of}
 use Rattle.sdd_app_inside.specs.watch.Text.{change}
-use Rattle.sdd_app_inside.specs.watch.Watching.{IsBetween}
+use Rattle.sdd_app_inside.specs.watch.moments.Changing.{IsBetween}
 
 -- how many stand in it
 

@@ -16,8 +16,8 @@ use Rattle.sdd_inside.specs.declared.delta.QueueDelta.{QueueDelta}
 use Rattle.sdd_inside.specs.declared.delta.Taken.{Taken}
 use Rattle.sdd_inside.specs.declared.delta.Taken.TheVariants as takens
 use Rattle.sdd_inside.specs.declared.moment.QueueMoment.{QueueMoment}
-use Rattle.sdd_app_inside.specs.watch.Happens.{taken}
-use Rattle.sdd_app_inside.specs.watch.Moments.{all_pipes, came, passed_to, queues_of}
+use Rattle.sdd_app_inside.specs.watch.moments.AtEvent.{taken}
+use Rattle.sdd_app_inside.specs.watch.moments.Moments.{all_pipes, came, passed_to, queues_of}
 
 -- what is known
 

@@ -8,7 +8,7 @@ use Rattle.sdd_inside.specs.declared.moment.QueueMoment.{QueueMoment}
 use Rattle.sdd_inside_laws.specs.Reader.{Known, KnownLink, KnownPipe, known, queue_classes, read}
 use Rattle.sdd_inside_laws.specs.TextReader.{by_names, read_all_told}
 use Rattle.sdd_inside_read.specs.LineReader.{event_lines, read_line}
-use Rattle.sdd_app_inside.specs.watch.Moments.{all_pipes, at_event}
+use Rattle.sdd_app_inside.specs.watch.moments.Moments.{all_pipes, at_event}
 use Rattle.sdd_app_inside.specs.watch.Text.{change}
 use Rattle.sdd_app_inside.specs.run.schedule.Copies.{tables_of}
 

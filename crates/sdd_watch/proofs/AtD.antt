@@ -1,7 +1,7 @@
 -- What a data module keeps tells how it stands.
 use Rattle.sdd_watch.proofs.All.{Bool, Change, ClassNo, ClassView, Cond, DmNo, Head, Kept, List, Msg, None, Option, Read, Setting, Shows, Some, State, View, Waits, Write, [], ap, arith, class_no, class_view, false, filter, filter_map, filter_same, head, head_at, head_by, head_in, head_of, head_shown, holder_at, holders_in, holders_of, holds_back, holds_in, if◌then◌else◌, is_met, is_met_in, length, map, met_is, not, pipe, pipe_at, range_with_len, refl, report_head, reported_dm, suc, sym, true, unmet, unmet_in, unmet_of, view_of, waits, waits_shown, zero, ℕ, ◌&&◌, ◌+◌, ◌<◌, ◌∙◌, ◌∷◌, ◌≡◌, ◌≤◌}
-use Rattle.sdd_schedule.specs.world.data_module.Represents.{Represents}
-use Rattle.sdd_progress.specs.obligations.site_module.SiteLog.{Log}
+use Rattle.sdd_moments.specs.schedule.world.data_module.Represents.{Represents}
+use Rattle.sdd_moments.specs.obligations.site_module.SiteLog.{Log}
 use Rattle.sdd_inside.specs.declared.standing.Head.TheVariants.{Held}
 
 -- the classes whose READ holds back a WRITE

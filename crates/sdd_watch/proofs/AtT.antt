@@ -1,14 +1,9 @@
 -- What a transaction module keeps tells how it stands.
-use Rattle.sdd_watch.proofs.All.{Active, All, All-from_recursion, AllByRecursion, Bool, ClassState, IsLineInOrder, IsLineOf, Kept, List, LivesT, Question, Queues, Setting, Some, TmNo, [], active_of, actives, ap, arith, asked, asks, bound_of, class_of, clock, false, filter, filter_map, flat_map, holds, map, map-map, nat_lt, question_by, questions_in, questions_to, refl, reported_tm, represents_queues, runs, slice_get, subst, suc, sym, true, ℕ, ◌*◌, ◌++◌, ◌+◌, ◌/◌, ◌==◌, ◌∙◌, ◌∷◌, ◌≡◌}
+use Rattle.sdd_watch.proofs.All.{Active, All, All-from_recursion, AllByRecursion, Bool, ClassState, IsLineInOrder, IsLineOf, Kept, List, Question, Queues, Setting, Some, TmNo, [], active_of, actives, ap, arith, asked, asks, bound_of, class_of, clock, filter, filter_map, flat_map, holds, map, map-map, nat_lt, question_by, questions_in, questions_to, refl, reported_tm, runs, slice_get, subst, suc, sym, ℕ, ◌*◌, ◌++◌, ◌+◌, ◌/◌, ◌==◌, ◌∙◌, ◌∷◌, ◌≡◌}
 use Rattle.sdd_watch.proofs.MadeLists.{picked_map}
-use Rattle.sdd_progress.specs.obligations.All.{state_of}
-use Rattle.sdd_progress.specs.obligations.site_module.SiteLog.{Log}
-use Rattle.sdd_progress.specs.obligations.tm.State.{State}
-
--- whether it takes part or is down, a module keeps what follows from its log
-pub keeps_its_log : (part : Bool) (k : Kept State) (s : Setting) (log : Log) → LivesT part k s log → Queues k s log
-keeps_its_log true k s log lives = represents_queues k s log lives.represents_log
-keeps_its_log false k s log lives = lives.represents_log
+use Rattle.sdd_moments.specs.obligations.All.{state_of}
+use Rattle.sdd_moments.specs.obligations.site_module.SiteLog.{Log}
+use Rattle.sdd_moments.specs.obligations.tm.State.{State}
 
 ticks_of : (t n bound : ℕ) → n ≡ bound / 64 → bound ≡ t * 64 + 63 → n ≡ t
 ticks_of t n bound e f = omega arith

@@ -1,7 +1,7 @@
 -- The difference of cut moments is that of whole moments, so what a watch keeps is enough to tell an event.
 use Rattle.sdd_watch.proofs.All.{AreAside, Bool, Delta, Happened, Input, List, Log, Moment, QueueDelta, Reach, all_sites, ap, change, changed_links, changed_pipes, difference, flat_map, found_by, happened_at, last_event, link_after, link_before, map, moment_of, pipe_after, pipe_before, queues_if, refl, ◌∙◌, ◌≡◌}
 use Rattle.sdd_watch.proofs.Cut.{cut_after, cut_before, cut_tells}
-use Rattle.sdd_watch.proofs.QueuesKept.{left_out}
+use Rattle.sdd_moments.proofs.QueuesKept.{left_out}
 
 abbrev with_queues : Delta → List QueueDelta → Delta
 with_queues d queues = record d { queues = queues }

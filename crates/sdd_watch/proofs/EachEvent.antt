@@ -1,6 +1,6 @@
 -- The log when so many events are over.
-use Rattle.sdd_watch.proofs.All.{MarksNext, one_more_mark, Entry, Event, Input, IsLawful, Log, Mark, Redeclare, Redeclares, Some, [], ap, arith, at_event, cases_lt, false, if◌then◌else◌, inl, inr, le-leb, lt-leb, marks, marks_above, nat_le, next, refl, subst, sym, true, ℕ, ◌++◌, ◌+◌, ◌<◌, ◌∙◌, ◌∷◌, ◌≡◌, ◌≤◌}
-pub use Rattle.sdd_schedule.proofs.EachEvent.{IsMarkedBetween, event_of, goes_on, is_between}
+use Rattle.sdd_watch.proofs.All.{MarksNext, one_more_mark, Entry, Event, Input, IsLawful, Log, Mark, Redeclare, Redeclares, Some, [], ap, arith, at_event, cases_lt, false, if◌then◌else◌, inl, inr, le-leb, lt-leb, marks, marks_above, nat_le, refl, subst, sym, true, ℕ, ◌++◌, ◌+◌, ◌<◌, ◌∙◌, ◌∷◌, ◌≡◌, ◌≤◌}
+pub use Rattle.sdd_moments.proofs.schedule.EachEvent.{IsMarkedBetween, event_of, goes_on, is_between}
 
 -- the log when so many events are over
 

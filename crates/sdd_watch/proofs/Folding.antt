@@ -1,6 +1,6 @@
 -- A fold over what the members of a list give, by one member after the other.
 use Rattle.sdd_watch.proofs.All.{List, [], ap, drop, drop_all, fold, fold-append, get_or, length, sym, ℕ, ◌++◌, ◌+◌, ◌<◌, ◌∙◌, ◌∷◌, ◌≡◌, ◌≤◌}
-use Rattle.sdd_watch.proofs.Loops.{next}
+use Rattle.sdd_moments.proofs.Loops.{next}
 
 -- what the members of two lists give stands one after the other
 pub record Joins {A B : Type 0} (give : List A → List B) : Type 0 where

@@ -1,28 +1,9 @@
 -- What is kept of one event after the other, and what is reported of what happened.
-use Rattle.sdd_watch.proofs.All.{All, All-append, All-cons, All-filter, All-map, All-nil, AreCommits, AreDones, Arrived, Commits, D, Dones, Event, Found, Happened, History, Input, IsBetween, IsGood, IsOver, IsSiteOf, IsTurn, List, Log, Option, RowDelta, Site, SiteState, T, Turn, U, World, ap, arith, arrived, contains, d_site, dm_no, filter, found_by, happened_at, history, is_done_at, length, link_there, list_any, map, marks, pair_cmp, range_with_len, refl, round_at, rows_of, says, scheduled_at, sites, states_of, subst, suc, sym, t_site, take, takes_part, zero, ℕ, ◌++◌, ◌+◌, ◌<◌, ◌||◌, ◌∙◌, ◌≡◌, ◌≤◌}
-use Rattle.sdd_watch.proofs.Recorded.{first_records}
+use Rattle.sdd_watch.proofs.All.{All, All-filter, AreCommits, AreDones, Arrived, Commits, D, Dones, Event, Found, Happened, History, Input, IsBetween, IsGood, IsOver, IsSiteOf, IsTurn, List, Log, Option, RowDelta, Site, SiteState, Turn, U, World, ap, arrived, contains, dm_no, filter, found_by, happened_at, history, is_done_at, length, link_there, list_any, marks, pair_cmp, round_at, rows_of, says, scheduled_at, sites, states_of, subst, sym, take, takes_part, ℕ, ◌||◌, ◌∙◌, ◌≡◌}
+use Rattle.sdd_moments.proofs.Recorded.{first_records}
+use Rattle.sdd_moments.proofs.SitesThere.{sites_there}
 use Rattle.sdd_watch.proofs.Said.{said_in_all}
-use Rattle.sdd_watch.specs.Moments.{handed_on}
-
--- the sites exist
-
-each_number : (P : ℕ → Type 0) (k n : ℕ) → ((d : ℕ) → k ≤ d → d < k + n → P d) → All P (range_with_len k n)
-each_number P k zero h = All-nil P
-each_number P k (suc n) h =
-    All-cons P k (range_with_len (k + 1) n) (h k (omega arith) (omega arith)) (each_number P (k + 1) n (λ d low high. h d (omega arith) (omega arith)))
-
-pub sites_there : (g : Input) → All (IsSiteOf g) (sites g.catalogue.tms g.catalogue.dms)
-sites_there g =
-    let t : ℕ → Site = λ n. T (record { 0 = n }) in
-    let d : ℕ → Site = λ n. D (record { 0 = n }) in
-    let tms : List ℕ = range_with_len 1 g.catalogue.tms in
-    let dms : List ℕ = range_with_len 1 g.catalogue.dms in
-    let all_tms : All (λ n. IsSiteOf g (t n)) tms =
-    each_number (λ n. IsSiteOf g (t n)) 1 g.catalogue.tms (λ n low high. t_site g.catalogue n low (omega arith)) in
-    let all_dms : All (λ n. IsSiteOf g (d n)) dms =
-    each_number (λ n. IsSiteOf g (d n)) 1 g.catalogue.dms (λ n low high. d_site g.catalogue n (low, omega arith)) in
-    All-cons (IsSiteOf g) U (map t tms ++ map d dms) refl
-    (All-append (IsSiteOf g) (map t tms) (map d dms) (All-map (IsSiteOf g) t tms all_tms) (All-map (IsSiteOf g) d dms all_dms))
+use Rattle.sdd_moments.specs.Moments.{handed_on}
 
 pub takers_there : (g : Input) (old new : Log) (all busy : List Site) → all ≡ sites g.catalogue.tms g.catalogue.dms → busy ≡ filter (takes_part g old new) all
     → All (IsSiteOf g) busy

@@ -1,8 +1,9 @@
 -- At an event of a link the sites that take part are those to which messages were handed: one, or none.
 use Rattle.sdd_watch.proofs.All.{Arrived, Bool, Event, Found, Input, IsSiteOf, IsThere, List, Log, None, Option, Site, Some, [], all_links, all_sites, and_parts, ap, are_linked, arith, arrived, arrived_on, concerns, cons_option, false, filter, filter_map, found_by, if◌then◌else◌, is_reached, is_site, last_event, length, link_of_links, map, place_of, refl, same_site, site_is, site_self, site_there, slice_get, suc, subst, sym, takes_part, true, zero, ℕ, ◌&&◌, ◌<◌, ◌||◌, ◌∙◌, ◌∷◌, ◌≡◌}
-use Rattle.sdd_watch.proofs.Came.{arrived_if, still}
-use Rattle.sdd_watch.proofs.SitesPlaced.{site_place}
-use Rattle.sdd_watch.proofs.TakingPart.{none_takes, reached_is}
+use Rattle.sdd_moments.proofs.Came.{arrived_if, still}
+use Rattle.sdd_moments.proofs.SitesPlaced.{site_place}
+use Rattle.sdd_watch.proofs.TakingPart.{none_takes}
+use Rattle.sdd_moments.proofs.ReachedIs.{reached_is}
 
 -- of a list the one member that passes a test
 

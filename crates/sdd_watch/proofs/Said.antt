@@ -1,8 +1,8 @@
 -- The DONEs that were handed over between two logs.
 use Rattle.sdd_watch.proofs.All.{Ack, Arrived, Bool, D, Done, Input, IsBetween, IsGood, IsThere, List, Log, Message, Msg, Packet, Purpose, Site, Some, U, [], all_links, and_false, ap, arrived, arrived_on, cons_option, dm_no, eq-eqb, false, filter_map, handed_over, is_done_at, list_any, list_any-append, not_both, purposed, refl, says, says_one, slice_get, subst, suc, sym, true, zero, ℕ, ◌&&◌, ◌==◌, ◌||◌, ◌∙◌, ◌∷◌, ◌≡◌}
-use Rattle.sdd_watch.proofs.Came.{arrived_if, handed_parts, here, messages, none_still, still, that_one}
-use Rattle.sdd_watch.proofs.Flights.{and_true}
-use Rattle.sdd_watch.specs.Moments.{handed_on}
+use Rattle.sdd_moments.proofs.Came.{arrived_if, handed_parts, here, messages, none_still, still, that_one}
+use Rattle.sdd_moments.proofs.Flights.{and_true}
+use Rattle.sdd_moments.specs.Moments.{handed_on}
 
 -- messages of data module n
 

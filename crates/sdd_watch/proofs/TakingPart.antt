@@ -1,27 +1,7 @@
 -- Which sites take part in an event.
-use Rattle.sdd_watch.proofs.All.{Arrived, Bool, Down, Event, Found, Input, List, Log, Redeclare, Site, Submit, Tick, TmNo, TxnNo, Up, [], all_links, ap, append-nil, arrived, arrived_on, concerns, cons_option, Deliver, false, filter, filter_map, found_by, given_to, handed, home_in, if◌then◌else◌, is_reached, last_event, list_any, not, reach_of, refl, same_site, sym, takes_part, true, ℕ, ◌&&◌, ◌++◌, ◌==◌, ◌||◌, ◌∙◌, ◌∷◌, ◌≡◌}
+use Rattle.sdd_watch.proofs.All.{Arrived, Bool, Down, Event, Found, Input, List, Log, Redeclare, Site, Submit, Tick, TmNo, TxnNo, Up, [], ap, append-nil, arrived, concerns, Deliver, false, filter, found_by, given_to, home_in, if◌then◌else◌, is_reached, last_event, list_any, reach_of, refl, same_site, sym, takes_part, true, ℕ, ◌++◌, ◌||◌, ◌∙◌, ◌∷◌, ◌≡◌}
 use Rattle.sdd_inside.specs.declared.delta.Found.TheVariants as founds
-use Rattle.sdd_watch.proofs.Came.{arrived_if, still}
-
-abbrev is_to : Site → Arrived → Bool
-is_to at one = same_site one.to at
-
--- messages came to a site where some were handed over on a link to it
-arrived_at : (old new : Log) (at : Site) (ls : List (Site × Site)) → list_any (is_to at) (filter_map (arrived_on old new) ls)
-    ≡ list_any (λ (l : Site × Site). not (handed l.0 l.1 old == handed l.0 l.1 new) && same_site l.1 at) ls
-arrived_at old new at [] = refl
-arrived_at old new at (l ∷ ls) =
-    let rest : List Arrived = filter_map (arrived_on old new) ls in
-    let more : Bool = list_any (λ (l : Site × Site). not (handed l.0 l.1 old == handed l.0 l.1 new) && same_site l.1 at) ls in
-    let i = arrived_at old new at ls in
-    elim (still old new l) as (λ b. list_any (is_to at) (cons_option (arrived_if old new l b) rest) ≡ ((not b && same_site l.1 at) || more)) [
-      | true ↦ i
-      | false ↦ ap (λ r. same_site l.1 at || r) i
-    ]
-
-pub reached_is : (g : Input) (old new : Log) (at : Site) (known : List Arrived) (b : Bool) → b ≡ list_any (λ (one : Arrived). same_site one.to at) known
-    → known ≡ arrived g old new → b ≡ is_reached g old new at
-reached_is g old new at known b is same = is ∙ ap (list_any (is_to at)) same ∙ arrived_at old new at (all_links g)
+use Rattle.sdd_moments.proofs.ReachedIs.{is_to, reached_is}
 
 pub takes_reached : (g : Input) (old new : Log) (at : Site) (known : List Arrived) (b : Bool)
     → b ≡ list_any (λ (one : Arrived). same_site one.to at) known → known ≡ arrived g old new → b ≡ true → true ≡ takes_part g old new at

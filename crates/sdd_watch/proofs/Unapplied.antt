@@ -1,11 +1,12 @@
 -- The DONEs that were handed to the module for undeclared transactions are those that its own log has.
 use Rattle.sdd_watch.proofs.All.{AreDones, Bool, Calm, D, Done, Dones, Input, IsLinkOf, IsPermitted, Kept, List, Log, Message, Msg, Site, U, World, [], ap, arith, cond, contains, d_site, dm_no, false, filter, handed, hands_from, if◌then◌else◌, in_order, is_done_at, lawful_permitted, list_any, list_any-append, local_of, map, not, numbered, numbers_to, pair_cmp, range_with_len, refl, says_applied, sent, sent_is, setting_of, suc, sym, take, true, unapplied_of, zero, ℕ, ◌&&◌, ◌++◌, ◌+◌, ◌<◌, ◌==◌, ◌||◌, ◌∙◌, ◌∷◌, ◌≡◌, ◌≤◌}
-use Rattle.sdd_progress.specs.obligations.All.{Handed}
-use Rattle.sdd_schedule.specs.world.u_module.Represents.{Represents}
-use Rattle.sdd_progress.specs.obligations.umod.State.{State}
-use Rattle.sdd_watch.specs.Moments.{handed_on}
-use Rattle.sdd_progress.proofs.obligations.invariants.HoldChain.{same_turned as turned}
-use Rattle.sdd_progress.specs.obligations.site_module.SiteLog as site
+use Rattle.sdd_moments.specs.obligations.All.{Handed}
+use Rattle.sdd_moments.specs.schedule.world.u_module.Represents.{Represents}
+use Rattle.sdd_moments.specs.obligations.umod.State.{State}
+use Rattle.sdd_moments.specs.Moments.{handed_on}
+use Rattle.sdd_moments.proofs.Numbered.{take_numbered}
+use Rattle.sdd_moments.proofs.progress.obligations.invariants.HoldChain.{same_turned as turned}
+use Rattle.sdd_moments.specs.obligations.site_module.SiteLog as site
 
 -- by messages
 
@@ -21,10 +22,6 @@ among_numbered : (t k : ℕ) (ms : List Msg) → list_any (is_done_at t) (number
 among_numbered t k [] = refl
 among_numbered t k (m ∷ ms) =
     ap (λ b. b || list_any (is_done_at t) (numbered (k + 1) ms)) (done_message t (k + 1) m) ∙ ap (λ b. is_done t m || b) (among_numbered t (k + 1) ms)
-
-pub take_numbered : (n k : ℕ) (ms : List Msg) → take n (numbered k ms) ≡ numbered k (take n ms)
-take_numbered (suc n) k (m ∷ ms) = ap (λ ps. Message (k + 1) m ∷ ps) (take_numbered n (k + 1) ms)
-take_numbered _ k _ = refl
 
 -- by the entries of the log
 

@@ -1,10 +1,10 @@
 -- How sites stand, by what their modules keep of their logs.
 -- For the contracts of the code: not needed to read `IsTextOf`.
 use Rattle.std.specs.Prelude.{ℕ, List, map, option_map, Option, Some, None}
-use Rattle.sdd_progress.specs.obligations.All.{ClassNo, ClassState, Cond, class_no}
-use Rattle.sdd_progress.specs.obligations.attempt.Line.{Line}
-use Rattle.sdd_schedule.specs.world.attempts.Sound.{IsOfHead}
-use Rattle.sdd_progress.specs.obligations.site_rules.declared.asked.Asked.{Asked}
+use Rattle.sdd_moments.specs.obligations.All.{ClassNo, ClassState, Cond, class_no}
+use Rattle.sdd_moments.specs.obligations.attempt.Line.{Line}
+use Rattle.sdd_moments.specs.schedule.world.attempts.Sound.{IsOfHead}
+use Rattle.sdd_moments.specs.obligations.site_rules.declared.asked.Asked.{Asked}
 use Rattle.sdd_inside.specs.declared.standing.Active.{Active}
 use Rattle.sdd_inside.specs.declared.standing.Head.{Head}
 use Rattle.sdd_inside.specs.declared.standing.Head.TheVariants as heads

@@ -1,7 +1,7 @@
 -- What is reported so far, while a world carries out a schedule.
 -- For the contracts of the code: not needed to read `IsTextOf`.
 use Rattle.std.specs.Prelude.{◌≡◌}
-use Rattle.sdd_progress.specs.obligations.All.{Event, Input, Log}
+use Rattle.sdd_moments.specs.obligations.All.{Event, Input, Log}
 use Rattle.sdd_watch.specs.Text.{inside_text}
 use Rattle.sdd_watch.specs.Watching.{Watches, foreseen_by}
 use Rattle.sdd_watch.specs.declared.teller.Teller.{Teller}

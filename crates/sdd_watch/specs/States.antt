@@ -1,15 +1,15 @@
 -- How sites stand in a run, as its log gives it.
 use Rattle.std.specs.Prelude.{ℕ, ◌==◌, nat_lt, Bool, true, false, not, ◌&&◌, if◌then◌else◌, List, [], ◌∷◌, filter, is_some, map, option_map, Option, Some, None}
 use Rattle.std.specs.List.{filter_map, flat_map, list_any}
-use Rattle.sdd_progress.specs.obligations.All.{Attempt, ClassView, D, DmNo, Done, Handed, Input, Log, Msg, Phase, Question, Read, Setting, Site, T, TmCounts, U, View, Write, active, asks, class_no, clock, counts, dm_no, head, holds, holds_back, is_down, is_met, last_served, local_of, numbers_to, runs, setting_of, time_at, tm_no, txn_no, view_of}
-use Rattle.sdd_schedule.specs.world.attempts.Lines.{lacked_by}
-use Rattle.sdd_schedule.specs.world.exchange.Phases.{awaited_in}
-use Rattle.sdd_schedule.specs.world.exchange.declared.answer.Answer.{Answer}
-use Rattle.sdd_schedule.specs.world.exchange.declared.answer.Answer.TheVariants as answers
-use Rattle.sdd_progress.specs.obligations.site_module.SiteLog as site
-use Rattle.sdd_progress.specs.obligations.umod.Standing.{is_asked_to_hold, unheld_by}
+use Rattle.sdd_moments.specs.obligations.All.{Attempt, ClassView, D, DmNo, Done, Handed, Input, Log, Msg, Phase, Question, Read, Setting, Site, T, TmCounts, U, View, Write, active, asks, class_no, clock, counts, dm_no, head, holds, holds_back, is_down, is_met, last_served, local_of, numbers_to, runs, setting_of, time_at, tm_no, txn_no, view_of}
+use Rattle.sdd_moments.specs.schedule.world.attempts.Lines.{lacked_by}
+use Rattle.sdd_moments.specs.schedule.world.exchange.Phases.{awaited_in}
+use Rattle.sdd_moments.specs.schedule.world.exchange.declared.answer.Answer.{Answer}
+use Rattle.sdd_moments.specs.schedule.world.exchange.declared.answer.Answer.TheVariants as answers
+use Rattle.sdd_moments.specs.obligations.site_module.SiteLog as site
+use Rattle.sdd_moments.specs.obligations.umod.Standing.{is_asked_to_hold, unheld_by}
 use Rattle.sdd_counts.specs.Counts.{is_kept_on_hold}
-use Rattle.sdd_progress.specs.obligations.umod.Views.{turn}
+use Rattle.sdd_moments.specs.obligations.umod.Views.{turn}
 use Rattle.sdd_inside.specs.declared.standing.Active.{Active}
 use Rattle.sdd_inside.specs.declared.standing.DmState.{DmState}
 use Rattle.sdd_inside.specs.declared.standing.Head.{Head}

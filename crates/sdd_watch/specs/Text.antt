@@ -4,12 +4,12 @@ use Rattle.std.specs.List.{flat_map}
 use Rattle.sdd_inside.specs.Differences.{difference}
 use Rattle.sdd_inside.specs.Lines.{beginning, line}
 use Rattle.sdd_inside.specs.declared.delta.Delta.{Delta}
-use Rattle.sdd_progress.specs.obligations.catalog.Catalogue.{Catalogue, numbers_to}
-use Rattle.sdd_progress.specs.obligations.logs.Entries.{Input, Log, marks}
-use Rattle.sdd_progress.specs.obligations.logs.Lawful.{IsTheLog}
-use Rattle.sdd_schedule.specs.Copies.{tables_of}
+use Rattle.sdd_moments.specs.obligations.catalog.Catalogue.{numbers_to}
+use Rattle.sdd_moments.specs.obligations.logs.Entries.{Input, Log, marks}
+use Rattle.sdd_moments.specs.obligations.logs.Lawful.{IsTheLog}
+use Rattle.sdd_moments.specs.schedule.Copies.{tables_of}
 use Rattle.sdd_watch.specs.Happens.{happened_at}
-use Rattle.sdd_watch.specs.Moments.{at_event, moment_of}
+use Rattle.sdd_moments.specs.Moments.{at_event, moment_of}
 
 -- what changed from one log to another, between which one event lies
 abbrev pub change : Input → Log → Log → Delta

@@ -3,11 +3,11 @@ ghost use Rattle.std.specs.Prelude.{◌≡◌, ◌++◌, ◌∷◌, ◌==◌, �
 ghost use Rattle.std.specs.BTreeMap.{get};
 ghost use Rattle.std.specs.Option.{option_or};
 ghost use Rattle.std.specs.Ordering.{nat_cmp};
-ghost use Rattle.sdd_progress.specs.obligations.All.{History};
+ghost use Rattle.sdd_moments.specs.obligations.All.{History};
 ghost use Rattle.sdd_watch.specs.Happens.{changes_of, committed_by, committed_in};
 ghost use Rattle.sdd_watch.specs.Watching.{AreCommits};
 
-use sdd_progress::{Change, NoMemory, Rec, TxnNo};
+use sdd_moments::{Change, NoMemory, Rec, TxnNo};
 use std::alloc::Global;
 use std::collections::BTreeMap;
 

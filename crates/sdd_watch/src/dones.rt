@@ -2,13 +2,11 @@
 ghost use Rattle.std.specs.Prelude.{◌≡◌, ◌≤◌, ◌++◌, ◌∷◌, ◌||◌, [], ℕ, false, filter, map, not, IfOk, OnOk};
 ghost use Rattle.std.specs.BTreeSet.{contains};
 ghost use Rattle.std.specs.List.{list_any};
-ghost use Rattle.sdd_progress.specs.obligations.All.{MAX_DMS, dm_no, numbers_to};
-ghost use Rattle.sdd_progress.specs.obligations.links.Finding.{pair_cmp};
+ghost use Rattle.sdd_moments.specs.obligations.All.{MAX_DMS, dm_no, numbers_to};
+ghost use Rattle.sdd_moments.specs.obligations.links.Finding.{pair_cmp};
 ghost use Rattle.sdd_watch.specs.Looking.{says, says_one};
 
-use crate::waiting::Purpose;
-use crate::watched_link::Arrived;
-use sdd_progress::{DmNo, NoMemory, Site, Ts};
+use sdd_moments::{Arrived, DmNo, NoMemory, Purpose, Site, Ts};
 use std::alloc::Global;
 use std::collections::BTreeSet;
 

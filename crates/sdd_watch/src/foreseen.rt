@@ -1,14 +1,13 @@
 //! What an event finds.
 ghost use Rattle.std.specs.Prelude.{◌≡◌, ◌≤◌};
-ghost use Rattle.sdd_progress.specs.obligations.All.{Input, IsLinkOf, Log, delivered, is_empty, link_of, packet_at};
-ghost use Rattle.sdd_progress.specs.obligations.net.Links.{unacked};
-ghost use Rattle.sdd_schedule.specs.world.Represents.{Calm};
-ghost use Rattle.sdd_watch.specs.Happens.{arrived_of, found_by, taken};
+ghost use Rattle.sdd_moments.specs.obligations.All.{Input, IsLinkOf, Log, delivered, is_empty, link_of, packet_at};
+ghost use Rattle.sdd_moments.specs.obligations.net.Links.{unacked};
+ghost use Rattle.sdd_moments.specs.schedule.world.Represents.{Calm};
+ghost use Rattle.sdd_moments.specs.AtEvent.{arrived_of, found_by, taken};
 ghost use Rattle.sdd_watch.specs.Watching.{IsTellable, foresee_act, foresee_take, foreseen_by, taken_at};
 
 use sdd_inside::{Found, Taken};
-use sdd_progress::{Event, Packet, Site, Spelling};
-use sdd_schedule::World;
+use sdd_moments::{Event, Packet, Site, Spelling, World};
 
 /// What an event is about to find.
 #[derive(Drop)]

@@ -2,16 +2,18 @@
 ghost use Rattle.std.specs.Prelude.{◌≡◌, ◌∷◌, [], fold, length, true, IfOk, IsTrue, OnOk};
 ghost use Rattle.std.specs.List.{list_any};
 ghost use Rattle.std.specs.Option.{option_copied};
-ghost use Rattle.sdd_progress.specs.obligations.All.{Change as Item, Input, Log, Represent, has_copy, history, is_here};
-ghost use Rattle.sdd_progress.specs.obligations.copy.Contents.{Dated};
-ghost use Rattle.sdd_schedule.specs.world.Represents.{Calm};
+ghost use Rattle.sdd_moments.specs.obligations.All.{Change as Item, Input, Log, Represent, has_copy, history, is_here};
+ghost use Rattle.sdd_moments.specs.obligations.copy.Contents.{Dated};
+ghost use Rattle.sdd_moments.specs.schedule.world.Represents.{Calm};
 ghost use Rattle.sdd_watch.specs.Happens.{applied_by, applied_in, changes_applied, is_of_item, report_row, row_left, rows_of, with_row};
-ghost use Rattle.sdd_watch.specs.Watching.{AreCommits, IsBetween};
+ghost use Rattle.sdd_watch.specs.Watching.{AreCommits};
+ghost use Rattle.sdd_moments.specs.Changing.{IsBetween};
 
 use crate::commits::Commits;
 use sdd_inside::RowDelta;
-use sdd_progress::{Catalogue, Change, Copies, DmNo, FragNo, NoMemory, Parcel, Rec, Row, TxnNo};
-use sdd_schedule::World;
+use sdd_moments::{
+    Catalogue, Change, Copies, DmNo, FragNo, NoMemory, Parcel, Rec, Row, TxnNo, World,
+};
 use std::alloc::Global;
 
 /// Whether a data module has a copy of a fragment, whose number is taken as 1 at least, since

@@ -1,25 +1,25 @@
 //! How sites stand between two events.
 ghost use Rattle.std.specs.Prelude.{◌≡◌, ◌==◌, ◌≤◌, ◌/◌, ◌++◌, ◌∷◌, [], filter_map, length, map, not, option_map, IfOk, OnOk, IsTrue, Some};
 ghost use Rattle.std.specs.List.{All, flat_map};
-ghost use Rattle.sdd_progress.specs.obligations.All.{ClassState, Input, IsSiteOf, Log, Setting, T, U, dm_no, local_of, setting_of, view_of};
+ghost use Rattle.sdd_moments.specs.obligations.All.{ClassState, Input, IsSiteOf, Log, Setting, T, U, dm_no, local_of, setting_of, view_of};
 ghost use Rattle.sdd_inside.specs.declared.standing.Stage.TheVariants as stages;
-ghost use Rattle.sdd_schedule.specs.world.attempts.Lines.{awaited_by, lacked_by};
-ghost use Rattle.sdd_schedule.specs.world.data_module.Represents as data_represents;
-ghost use Rattle.sdd_progress.specs.obligations.dm.Views as data_views;
-ghost use Rattle.sdd_progress.specs.obligations.pipe.Pipes.{pipe_at};
-ghost use Rattle.sdd_progress.specs.obligations.site_module.SiteLog as site;
-ghost use Rattle.sdd_schedule.specs.world.txn_module.Represents as tm_represents;
-ghost use Rattle.sdd_schedule.specs.world.u_module.Represents as u_represents;
-ghost use Rattle.sdd_schedule.specs.world.Represents.{Calm};
+ghost use Rattle.sdd_moments.specs.schedule.world.attempts.Lines.{awaited_by, lacked_by};
+ghost use Rattle.sdd_moments.specs.schedule.world.data_module.Represents as data_represents;
+ghost use Rattle.sdd_moments.specs.obligations.dm.Views as data_views;
+ghost use Rattle.sdd_moments.specs.obligations.pipe.Pipes.{pipe_at};
+ghost use Rattle.sdd_moments.specs.obligations.site_module.SiteLog as site;
+ghost use Rattle.sdd_moments.specs.schedule.world.txn_module.Represents as tm_represents;
+ghost use Rattle.sdd_moments.specs.schedule.world.u_module.Represents as u_represents;
+ghost use Rattle.sdd_moments.specs.schedule.world.Represents.{Calm};
 ghost use Rattle.sdd_watch.specs.Keeping.{IsLineInOrder, active_in, active_of, head_in, question_by, questions_in};
 ghost use Rattle.sdd_watch.specs.States.{data_sites, lacks_in, phase_by, report_head, reported_dm, reported_tm, reported_u, stage_at, stage_by, state_of, unapplied_last, unapplied_of};
 ghost use Rattle.sdd_watch.specs.Watching.{AreDones};
 
 use crate::dones::Dones;
 use sdd_inside::{Active, DmState, Head, Phase, Question, SiteState, Stage, TmState, UState};
-use sdd_progress::{ClassNo, Conds, DmNo, Listed, NoMemory, Parcel, Site, TmNo, Ts, TxnNo};
-use sdd_schedule::{
-    Answer, Asked, ClassNos, ClassRun, DataModule, Line, TxnModule, UModule, World,
+use sdd_moments::{
+    Answer, Asked, ClassNo, ClassNos, ClassRun, Conds, DataModule, DmNo, Line, Listed, NoMemory,
+    Parcel, Site, TmNo, Ts, TxnModule, TxnNo, UModule, World,
 };
 use std::alloc::Global;
 use std::collections::VecDeque;

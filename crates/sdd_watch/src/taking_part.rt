@@ -1,22 +1,19 @@
 //! Which sites take part in an event, and how they stand.
 ghost use Rattle.std.specs.Prelude.{◌≡◌, ◌++◌, ◌∷◌, ◌&&◌, [], All, false, filter, map, true, IfOk, OnOk};
-ghost use Rattle.std.specs.List.{list_any};
-ghost use Rattle.sdd_progress.specs.obligations.All.{Input, IsSiteOf, Log, Redeclare, Site as Place, nth_era, redeclares, same_site, txn_at};
-ghost use Rattle.sdd_progress.specs.obligations.logs.Due.{home_of as class_site};
+ghost use Rattle.sdd_moments.specs.obligations.All.{Input, IsSiteOf, Log, Redeclare, Site as Place, same_site};
 ghost use Rattle.sdd_inside.specs.declared.delta.Found.{Found as Finding};
-ghost use Rattle.sdd_schedule.specs.world.Represents.{Calm};
-ghost use Rattle.sdd_watch.specs.Happens.{concerns, found_by, is_something, last_event, takes_part};
-ghost use Rattle.sdd_watch.specs.Reaching.{given_to};
+ghost use Rattle.sdd_moments.specs.schedule.world.Represents.{Calm};
+ghost use Rattle.sdd_watch.specs.Happens.{concerns, is_something, takes_part};
+ghost use Rattle.sdd_moments.specs.AtEvent.{found_by, last_event};
+ghost use Rattle.sdd_moments.specs.Reaching.{given_to};
 ghost use Rattle.sdd_watch.specs.States.{state_of};
-ghost use Rattle.sdd_watch.specs.Watching.{AreDones, all_sites, arrived as arrived_between};
+ghost use Rattle.sdd_watch.specs.Watching.{AreDones};
+ghost use Rattle.sdd_moments.specs.Changing.{all_sites, arrived as arrived_between};
 
 use crate::dones::Dones;
-use crate::places::is_same;
 use crate::states::state;
-use crate::watched_link::Arrived;
 use sdd_inside::{Found, SiteState};
-use sdd_progress::{Event, NoMemory, Site, TxnNo};
-use sdd_schedule::{World, home};
+use sdd_moments::{Arrived, Event, NoMemory, Site, World, is_reached, is_same};
 use std::alloc::Global;
 
 fn is_something(found: &Found) -> bool
@@ -25,19 +22,6 @@ fn is_something(found: &Found) -> bool
     match found {
         Found::Nothing => false,
         _ => true,
-    }
-}
-
-/// The site of a transaction's class, by its number and by the class list in force.
-pub(crate) fn home_of(world: &World<'_>, number: TxnNo) -> Site
-    requires { (g : Input) × (log : Log) × Calm world.now g log }
-    ensures { (g : Input) (log : Log) → Calm world.now g log → result
-        ≡ class_site (nth_era g (redeclares log)).catalogue (txn_at g number.0) }
-{
-    let place = number.0.saturating_sub(1);
-    match world.transactions().get(place as usize) {
-        Some(txn) => home(world.catalogue(), txn),
-        None => Site::U,
     }
 }
 
@@ -71,13 +55,6 @@ fn concerns(event: &Event, found: &Found, home: Site, at: Site) -> bool
         Event::Redeclare => is_txn_module(at),
         _ => false,
     }
-}
-
-/// Whether a message was handed to a site.
-pub(crate) fn is_reached(arrived: &[Arrived], at: Site) -> bool
-    ensures { result ≡ list_any (λ one. same_site one.to at) arrived.now }
-{
-    arrived.iter().any(|one| is_same(one.to, at))
 }
 
 /// Whether a site takes part in an event that is carried out.

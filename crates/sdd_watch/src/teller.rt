@@ -1,7 +1,7 @@
 //! The lines of events, put one after the other.
 ghost use Rattle.std.specs.Prelude.{◌≡◌, ◌++◌, OnOk};
 ghost use Rattle.sdd_inside.specs.Lines.{line};
-ghost use Rattle.sdd_progress.specs.obligations.All.{Input, Log};
+ghost use Rattle.sdd_moments.specs.obligations.All.{Input, Log};
 ghost use Rattle.sdd_watch.specs.ScheduleSoFar.{Foresees, Tells};
 ghost use Rattle.sdd_watch.specs.Text.{change};
 ghost use Rattle.sdd_watch.specs.Watching.{IsToTell, Watches};
@@ -9,8 +9,7 @@ ghost use Rattle.sdd_watch.specs.Watching.{IsToTell, Watches};
 use crate::foreseen::{Foreseen, find_outcome, foresee};
 use crate::watch::Watch;
 use sdd_inside::put_line;
-use sdd_progress::{Catalogue, Event, NoMemory};
-use sdd_schedule::{Observer, Turn, World};
+use sdd_moments::{Catalogue, Event, NoMemory, Observer, Turn, World};
 use std::mem;
 
 /// What is reported so far, and what was where when that was over.

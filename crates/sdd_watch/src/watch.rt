@@ -1,31 +1,27 @@
 //! What stood where when an event was over, and what the next one changed.
-ghost use Rattle.std.specs.Prelude.{◌≡◌, ◌++◌, ◌∷◌, [], cond, length, map, IfOk, OnOk};
+ghost use Rattle.std.specs.Prelude.{◌≡◌, [], length, IfOk, OnOk};
 ghost use Rattle.sdd_inside.specs.Differences.{difference};
-ghost use Rattle.sdd_progress.specs.obligations.All.{Input, Log, are_linked as are_linked_by, history};
-ghost use Rattle.sdd_schedule.specs.world.Represents.{Calm};
+ghost use Rattle.sdd_moments.specs.obligations.All.{Input, Log, history};
+ghost use Rattle.sdd_moments.specs.schedule.world.Represents.{Calm};
 ghost use Rattle.sdd_watch.specs.Happens.{happened_at, rows_of};
 ghost use Rattle.sdd_watch.specs.Looking.{HasLooked, IsSeen};
-ghost use Rattle.sdd_watch.specs.Reaching.{given_to, reach_of};
+ghost use Rattle.sdd_moments.specs.Reaching.{given_to, reach_of};
 ghost use Rattle.sdd_watch.specs.Text.{change};
-ghost use Rattle.sdd_watch.specs.Watching.{AreCommits, IsBetween, IsOver, IsTurn, Knows, Watches, all_sites, arrived as arrived_between, watched_link, watched_links};
+ghost use Rattle.sdd_watch.specs.Watching.{AreCommits, IsTurn, Knows, Watches};
+ghost use Rattle.sdd_moments.specs.Changing.{IsBetween, IsOver, arrived as arrived_between};
 
-use crate::at_site::AtSite;
-use crate::both::Both;
 use crate::commits::Commits;
 use crate::dones::Dones;
-use crate::on_links::{OnLinks, look_at_links};
-use crate::places::{all_sites, are_linked};
-use crate::queues::{all_queues, have_moved, look_at_queues};
-use crate::reach::{Reach, home_in, reach_of};
 use crate::rows::rows_from;
 use crate::taking_part::{busy, states};
-use crate::watched_link::{Arrived, WatchedLink};
-use crate::watched_pipe::{WatchedPipe, first_pipes, look_at_pipes};
 use sdd_inside::{
     Delta, Found, Happened, LinkMoment, Moment, PipeMoment, QueueMoment, RowDelta, difference,
 };
-use sdd_progress::{Catalogue, Event, Listed, NoMemory, Site};
-use sdd_schedule::{Turn, World};
+use sdd_moments::{
+    Arrived, AtSite, Both, Catalogue, Event, Listed, NoMemory, OnLinks, Reach, Site, Turn,
+    WatchedLink, WatchedPipe, World, all_queues, all_sites, first_links, first_pipes, have_moved,
+    home_in, look_at_links, look_at_pipes, look_at_queues, reach_of,
+};
 use std::alloc::Global;
 
 /// What stood where when the last event was over.
@@ -48,53 +44,6 @@ pub(crate) struct Seen {
     pub(crate) links: OnLinks,
     pub(crate) queues: Both<QueueMoment>,
     pub(crate) pipes: Both<PipeMoment>,
-}
-
-/// Adds a link on which nothing was done, where there is one between these sites.
-fn add_link(
-    alloc: Global,
-    from: Site,
-    to: Site,
-    links: &mut Vec<WatchedLink>,
-) -> Result<(), NoMemory>
-    ensures { OnOk result (links.new.items ≡ links.old.items
-        ++ cond (are_linked_by from to) (watched_link [] (from, to) ∷ []) []) }
-{
-    if are_linked(from, to) {
-        links.push(WatchedLink::new(alloc, from, to))?;
-    }
-    Ok(())
-}
-
-/// The links from a site to those among the sites, on which nothing was done.
-fn first_links_from(
-    alloc: Global,
-    from: Site,
-    sites: &[Site],
-) -> Result<AtSite<WatchedLink>, NoMemory>
-    ensures { IfOk result (λ links. (g : Input) → sites.now ≡ all_sites g
-        → links ≡ watched_links g [] from) }
-{
-    let mut links = Vec::new(alloc);
-    for to in sites {
-        add_link(alloc, from, *to, &mut links)?;
-    }
-    Ok(AtSite {
-        at: from,
-        parts: links,
-    })
-}
-
-/// The links between these sites, on which nothing was done.
-fn first_links(alloc: Global, sites: &[Site]) -> Result<Vec<AtSite<WatchedLink>>, NoMemory>
-    ensures { IfOk result (λ links. (g : Input) → sites.now ≡ all_sites g
-        → links.items ≡ map (watched_links g []) (all_sites g)) }
-{
-    let mut links = Vec::new(alloc);
-    for from in sites {
-        links.push(first_links_from(alloc, *from, sites)?)?;
-    }
-    Ok(links)
 }
 
 /// The moments before and after an event, of these parts.

@@ -1,8 +1,8 @@
 //! The text of what happens while a world carries out a schedule.
 ghost use Rattle.std.specs.Prelude.{◌≡◌, ◌<◌, ◌^◌, [], length, IfOk, IsErrOf, OnOk};
-ghost use Rattle.sdd_progress.specs.obligations.All.{Input, IsTheLog, Log};
-ghost use Rattle.sdd_schedule.specs.Schedules.{AreAllowed, with_events};
-ghost use Rattle.sdd_schedule.specs.world.Represents.{EndsBy, Represents};
+ghost use Rattle.sdd_moments.specs.obligations.All.{Input, IsTheLog, Log};
+ghost use Rattle.sdd_moments.specs.schedule.Schedules.{AreAllowed, with_events};
+ghost use Rattle.sdd_moments.specs.schedule.world.Represents.{EndsBy, Represents};
 ghost use Rattle.sdd_watch.specs.ScheduleSoFar.{Tells};
 ghost use Rattle.sdd_watch.specs.Text.{IsTextOf};
 
@@ -10,8 +10,7 @@ use crate::foreseen::Foreseen;
 use crate::teller::Teller;
 use crate::watch::Watch;
 use sdd_inside::put_beginning;
-use sdd_progress::{Catalogue, Event, NoMemory};
-use sdd_schedule::{ClassList, World, WorldEnd, carry_out, copy_tables};
+use sdd_moments::{Catalogue, ClassList, Event, NoMemory, World, WorldEnd, carry_out, copy_tables};
 use std::alloc::Global;
 
 /// What is reported before the first event.

@@ -1,5 +1,5 @@
 use Rattle.sdd_bounds.proofs.All.{ap, arith, sym, ◌∙◌}
-use Rattle.sdd_obligations.specs.logs.Marks.{events_ahead}
+use Rattle.sdd_progress.specs.obligations.logs.Marks.{events_ahead}
 use Rattle.sdd_bounds.proofs.FewRounds.{few_rounds}
 use Rattle.sdd_bounds.proofs.rounds_law.law_few_rounds.Goals as goal
 

@@ -1,7 +1,7 @@
 -- The heads of the classes before the one at hand are reported.
 use Rattle.sdd_watch.proofs.All.{Setting, class_view, filter_map, map, range_with_len, report_head, view_of, ◌≡◌}
-use Rattle.sdd_schedule.specs.world.data_module.Represents.{Represents}
-use Rattle.sdd_progress.specs.obligations.site_module.SiteLog.{Log}
+use Rattle.sdd_moments.specs.schedule.world.data_module.Represents.{Represents}
+use Rattle.sdd_moments.specs.obligations.site_module.SiteLog.{Log}
 use Rattle.sdd_watch.proofs.states.dm_state.Given as goal
 
 abbrev pub invariant-loop-class : goal.invariant-loop-class

@@ -1,5 +1,5 @@
 use Rattle.sdd_watch.proofs.All.{D, IsSiteOf, T, ap, local_of, reported_dm, reported_tm, setting_of, state_of, subst, sym, takes_at, ◌∙◌}
-use Rattle.sdd_watch.proofs.AtT.{keeps_its_log}
+use Rattle.sdd_moments.proofs.Queued.{keeps_its_log}
 use Rattle.sdd_inside.specs.declared.standing.SiteState.TheVariants as states
 use Rattle.sdd_watch.proofs.states.state.Goals as goal
 

@@ -1,5 +1,5 @@
 use Rattle.sdd_watch.proofs.All.{U, takes_part}
-use Rattle.sdd_watch.proofs.SoFar.{filtered_all, filtered_to}
+use Rattle.sdd_moments.proofs.SoFar.{filtered_all, filtered_to}
 use Rattle.sdd_watch.proofs.taking_part.busy_among.Goals as goal
 
 pub loop-at-preserved : goal.loop-at-preserved

@@ -1,5 +1,5 @@
 use Rattle.sdd_watch.proofs.All.{All-get_or, IsSiteOf, U, state_of}
-use Rattle.sdd_watch.proofs.SoFar.{mapped_all, mapped_to}
+use Rattle.sdd_moments.proofs.SoFar.{mapped_all, mapped_to}
 use Rattle.sdd_watch.proofs.taking_part.states.Goals as goal
 
 pub state-requires : goal.state-requires

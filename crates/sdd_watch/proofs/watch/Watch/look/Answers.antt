@@ -1,4 +1,4 @@
-use Rattle.sdd_watch.proofs.All.{Input, Knows, Log, Watch, all_ok, ap, given_to, home_in, of_ok, ◌∙◌}
+use Rattle.sdd_watch.proofs.All.{Knows, Watch, all_ok, ap, home_in, of_ok, ◌∙◌}
 use Rattle.sdd_watch.proofs.CutDifference.{change_reported}
 use Rattle.sdd_watch.proofs.TakingPart.{given_is}
 use Rattle.sdd_watch.proofs.watch.Watch.look.Goals as goal

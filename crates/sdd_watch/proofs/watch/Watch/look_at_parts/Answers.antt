@@ -1,7 +1,8 @@
 use Rattle.sdd_watch.proofs.All.{AreAside, Bool, Catalogue, Event, Found, History, Input, IsOver, Log, Reach, Watch, Watches, World, all_sites, ap, arith, drop, history, is_of_queue, list_any, numbers_to, queues_by, reach_of, refl, watched_links, watched_pipes, ◌∙◌, ◌≡◌}
-use Rattle.sdd_watch.proofs.KeptBeside.{beside, known, written_back}
-use Rattle.sdd_watch.proofs.LinksLooked.{reach_reported}
-use Rattle.sdd_watch.proofs.QueuesKept.{are_aside}
+use Rattle.sdd_watch.proofs.KeptBeside.{beside, known}
+use Rattle.sdd_moments.proofs.Visited.{written_back}
+use Rattle.sdd_moments.proofs.LinksLooked.{reach_reported}
+use Rattle.sdd_moments.proofs.QueuesKept.{are_aside}
 use Rattle.sdd_watch.proofs.watch.Watch.look_at_parts.Goals as goal
 
 pub look_at_links-requires : goal.look_at_links-requires

@@ -1,9 +1,0 @@
-use Rattle.std.proofs.Common.{arith}
-use Rattle.std.proofs.lemmas.Grind.{common_steps}
-use Rattle.sdd_watch.proofs.watched_pipe.numbers_among.Goals as goal
-
-pub messages-preserved : goal.messages-preserved
-messages-preserved c = grind (arith, common_steps)
-
-pub returns : goal.returns
-returns c = grind (arith, common_steps)
