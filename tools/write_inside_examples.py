@@ -73,7 +73,7 @@ use Rattle.sdd_app_inside.specs.watch.obligations.All.{Catalogue, Input, Log, Tx
 use Rattle.sdd_inside.specs.Examples.{named, txn}
 use Rattle.sdd_inside.specs.Json.{also}
 use Rattle.sdd_inside.specs.Lines.{line}
-use Rattle.sdd_app_inside.specs.watch.Moments.{at_event}
+use Rattle.sdd_app_inside.specs.watch.moments.Moments.{at_event}
 use Rattle.sdd_app_inside.specs.watch.Text.{change}
 
 -- the line of the event after so many others, by catalogue and transactions with names
