@@ -6,7 +6,7 @@ use Rattle.sdd_inside_laws.proofs.Resting.{rests_at}
 use Rattle.sdd_app_inside.specs.watch.obligations.All.{Entry, Input, IsGood, IsTheLog, Log, Mark, Redeclares, marks}
 use Rattle.sdd_app_inside.proofs.watch.EachEvent.{IsMarkedBetween, at_below, at_self, goes_on, is_between, lawful_at, marks_next}
 use Rattle.sdd_app_inside.specs.watch.moments.Moments.{at_event}
-use Rattle.sdd_app_inside.specs.watch.moments.Changing.{IsBetween}
+use Rattle.sdd_app_inside.specs.watch.moments.Changes.{IsBetween}
 
 one_mark : (x : Entry) (log : Log) → marks (x ∷ log) ≤ suc (marks log)
 one_mark (Mark e) log = omega arith

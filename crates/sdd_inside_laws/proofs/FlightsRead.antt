@@ -12,7 +12,7 @@ use Rattle.sdd_inside_laws.proofs.PacketsRead.{fewer}
 use Rattle.sdd_inside_laws.specs.Reader.{place_in}
 use Rattle.sdd_app_inside.proofs.watch.moments.Between.{last_is, same_link}
 use Rattle.sdd_app_inside.specs.watch.moments.AtEvent.{arrived_by, found_by, last_event, lost_by}
-use Rattle.sdd_app_inside.specs.watch.moments.Changing.{IsBetween, is_taken, left_between, left_of}
+use Rattle.sdd_app_inside.specs.watch.moments.Changes.{IsBetween, is_taken, left_between, left_of}
 use Rattle.sdd_app_inside.specs.watch.Watching.{IsMark}
 
 -- the packets that an event leaves of a flight

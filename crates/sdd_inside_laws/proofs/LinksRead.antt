@@ -21,7 +21,7 @@ use Rattle.sdd_app_inside.specs.watch.moments.AtEvent.{found_by, last_event, tak
 use Rattle.sdd_app_inside.specs.watch.Happens.{happened_at}
 use Rattle.sdd_app_inside.specs.watch.moments.Moments.{link_moment}
 use Rattle.sdd_app_inside.specs.watch.Text.{change}
-use Rattle.sdd_app_inside.specs.watch.moments.Changing.{IsBetween, is_taken, left_between}
+use Rattle.sdd_app_inside.specs.watch.moments.Changes.{IsBetween, is_taken, left_between}
 
 self_is : (a b : Site) → (same_site a a && same_site b b) ≡ true
 self_is a b = rw (site_self a, site_self b) refl

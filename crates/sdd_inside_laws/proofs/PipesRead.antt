@@ -24,7 +24,7 @@ use Rattle.sdd_inside_laws.proofs.PipesThere.{pipe_there}
 use Rattle.sdd_app_inside.specs.watch.Happens.{happened_at}
 use Rattle.sdd_app_inside.specs.watch.moments.Moments.{all_pipes, came, handed_on, number_through, passed_to, pipe_moment, source, time_passed}
 use Rattle.sdd_app_inside.specs.watch.Text.{change}
-use Rattle.sdd_app_inside.specs.watch.moments.Changing.{IsBetween, handed_over}
+use Rattle.sdd_app_inside.specs.watch.moments.Changes.{IsBetween, handed_over}
 
 nothing_in : {A : Type 0} (xs : List A) → is_empty xs ≡ true → xs ≡ []
 nothing_in [] h = refl

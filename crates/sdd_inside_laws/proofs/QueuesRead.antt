@@ -24,7 +24,7 @@ use Rattle.sdd_app_inside.proofs.watch.moments.Between.{joined_more}
 use Rattle.sdd_app_inside.specs.watch.Happens.{happened_at}
 use Rattle.sdd_app_inside.specs.watch.moments.Moments.{queue_moment, queues_at, queues_of}
 use Rattle.sdd_app_inside.specs.watch.Text.{change}
-use Rattle.sdd_app_inside.specs.watch.moments.Changing.{IsBetween}
+use Rattle.sdd_app_inside.specs.watch.moments.Changes.{IsBetween}
 
 -- the queues, by their classes alone
 

@@ -21,7 +21,7 @@ use Rattle.sdd_app_inside.specs.watch.obligations.net.Sound.{IsOf}
 use Rattle.sdd_app_inside.specs.watch.Happens.{happened_at}
 use Rattle.sdd_app_inside.specs.watch.moments.Moments.{link_moment}
 use Rattle.sdd_app_inside.specs.watch.Text.{change}
-use Rattle.sdd_app_inside.specs.watch.moments.Changing.{IsBetween}
+use Rattle.sdd_app_inside.specs.watch.moments.Changes.{IsBetween}
 
 -- packets
 

@@ -28,7 +28,7 @@ use Rattle.sdd_app_inside.proofs.watch.moments.Numbered.{take_numbered}
 use Rattle.sdd_app_inside.specs.watch.Happens.{happened_at}
 use Rattle.sdd_app_inside.specs.watch.moments.Moments.{all_pipes, came, number_through, pipe_moment, source, time_passed}
 use Rattle.sdd_app_inside.specs.watch.Text.{change}
-use Rattle.sdd_app_inside.specs.watch.moments.Changing.{IsBetween}
+use Rattle.sdd_app_inside.specs.watch.moments.Changes.{IsBetween}
 
 -- numbers of messages
 

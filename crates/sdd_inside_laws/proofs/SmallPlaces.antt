@@ -17,7 +17,7 @@ use Rattle.sdd_app_inside.specs.watch.obligations.net.Links.{round}
 use Rattle.sdd_app_inside.proofs.watch.moments.Between.{last_is}
 use Rattle.sdd_app_inside.specs.watch.moments.AtEvent.{found_by, last_event}
 use Rattle.sdd_app_inside.specs.watch.Text.{change}
-use Rattle.sdd_app_inside.specs.watch.moments.Changing.{IsBetween}
+use Rattle.sdd_app_inside.specs.watch.moments.Changes.{IsBetween}
 use Rattle.sdd_app_inside.specs.watch.Watching.{IsMark}
 
 -- the sites and the place of an event that may take a packet have numbers of 64 bits

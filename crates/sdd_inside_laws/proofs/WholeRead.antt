@@ -11,7 +11,7 @@ use Rattle.sdd_inside_laws.proofs.QueuesRead.{all_queues, of_class, queue_read}
 use Rattle.sdd_inside_laws.specs.Reader.{known, known_link, known_pipe, queue_classes, read, read_link, read_pipe, read_queue}
 use Rattle.sdd_app_inside.specs.watch.moments.Moments.{all_pipes, queues_of}
 use Rattle.sdd_app_inside.specs.watch.Text.{change}
-use Rattle.sdd_app_inside.specs.watch.moments.Changing.{IsBetween}
+use Rattle.sdd_app_inside.specs.watch.moments.Changes.{IsBetween}
 
 pub whole_read : (g : Input) (old new : Log) → IsGood g → IsBetween g old new → read (change g old new) (known g old) ≡ known g new
 whole_read g old new good b =

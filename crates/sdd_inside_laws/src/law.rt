@@ -10,7 +10,7 @@ ghost use Rattle.sdd_inside_read.specs.Small.{HasSmallNumbers};
 ghost use Rattle.sdd_app_inside.specs.watch.obligations.catalog.Naming.{AreNamed};
 ghost use Rattle.sdd_app_inside.specs.Text.{IsInsideOf};
 ghost use Rattle.sdd_app_inside.specs.watch.Text.{change};
-ghost use Rattle.sdd_app_inside.specs.watch.moments.Changing.{IsBetween};
+ghost use Rattle.sdd_app_inside.specs.watch.moments.Changes.{IsBetween};
 ghost use Rattle.sdd_app_inside.specs.run.Runs.{input};
 ghost use Rattle.sdd_app_inside.specs.run.script.Valid.{IsValid};
 ghost use Rattle.sdd_app_inside.specs.run.script.declared.workload.Workload.{Workload};

@@ -63,7 +63,7 @@ pub use Rattle.sdd_moments.specs.Looking.{AreAside, ArePipesSeen, AreSeen, advan
 pub use Rattle.sdd_moments.specs.Moments.{all_pipes, came, number_through, passed_to, pipes_at_module, queue_moment, queues_at, queues_from, queues_of, source, time_passed}
 pub use Rattle.sdd_moments.specs.Reaching.{actor, is_between, is_to, is_touched, may_act, may_change_from, other_end, reach_between, reach_of, reach_of_delivery, touched_from}
 pub use Rattle.sdd_schedule.specs.Events.{IsMark}
-pub use Rattle.sdd_moments.specs.Changing.{IsBetween, IsOver, all_sites, arrived, arrived_on, changed_links, changed_pipes, handed_over, is_changed_link, is_changed_pipe, is_on, is_still_link, is_still_pipe, is_taken, left_between, left_of, link_after, link_before, links_from, pipe_after, pipe_before, queues_by, seen_between, watched_link, watched_links, watched_pipe, watched_pipes}
+pub use Rattle.sdd_moments.specs.Changes.{IsBetween, IsOver, all_sites, arrived, arrived_on, changed_links, changed_pipes, handed_over, is_changed_link, is_changed_pipe, is_on, is_still_link, is_still_pipe, is_taken, left_between, left_of, link_after, link_before, links_from, pipe_after, pipe_before, queues_by, seen_between, watched_link, watched_links, watched_pipe, watched_pipes}
 pub use Rattle.sdd_moments.specs.declared.both.Both.{Both}
 pub use Rattle.sdd_moments.specs.declared.on_links.OnLinks.{OnLinks}
 pub use Rattle.sdd_moments.specs.declared.reach.Reach.{Reach}

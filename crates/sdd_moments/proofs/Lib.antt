@@ -21,7 +21,7 @@ pub mod Queued
 pub mod QueuesKept
 pub mod QueuesLooked
 pub mod Reached
-pub mod ReachedIs
+pub mod SitesReached
 pub mod Recorded
 pub mod SitesPassed
 pub mod SitesPlaced

@@ -1,6 +1,6 @@
 pub mod AtEvent
 pub mod Awaiting
-pub mod Changing
+pub mod Changes
 pub mod Looking
 pub mod Moments
 pub mod Reaching

@@ -10,7 +10,7 @@ use Rattle.sdd_inside.specs.declared.moment.QueueMoment.{QueueMoment}
 use Rattle.sdd_moments.specs.Awaiting.{behind, number_for, purposed_above, up_to}
 use Rattle.sdd_moments.specs.Moments.{queues_from}
 use Rattle.sdd_moments.specs.Reaching.{may_act}
-use Rattle.sdd_moments.specs.Changing.{arrived, arrived_on, is_changed_link, is_changed_pipe, is_on, link_after, link_before, pipe_after, pipe_before}
+use Rattle.sdd_moments.specs.Changes.{arrived, arrived_on, is_changed_link, is_changed_pipe, is_on, link_after, link_before, pipe_after, pipe_before}
 use Rattle.sdd_moments.specs.declared.both.Both.{Both}
 use Rattle.sdd_moments.specs.declared.reach.Reach.{Reach}
 use Rattle.sdd_moments.specs.declared.waiting.Purpose.{Purpose}

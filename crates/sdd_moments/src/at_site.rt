@@ -5,8 +5,8 @@ use std::marker::Model;
 /// The parts of a moment that belong to a site. Contracts see the site, and the list of the parts.
 #[derive(Drop)]
 pub struct AtSite<T> {
-    pub at: Site,
-    pub parts: Vec<T>,
+    pub(crate) at: Site,
+    pub(crate) parts: Vec<T>,
 }
 
 impl<T> Model for AtSite<T> {

@@ -12,7 +12,7 @@ pub struct Both<T> {
 }
 
 impl<T: Drop> Both<T> {
-    pub fn new(alloc: Global) -> Both<T>
+    pub(crate) fn new(alloc: Global) -> Both<T>
         ensures before { result.before.items ≡ [] }
         ensures after { result.after.items ≡ [] }
     {
@@ -23,7 +23,7 @@ impl<T: Drop> Both<T> {
     }
 
     /// Adds a part, as it was and as it is.
-    pub fn add(&mut self, before: T, after: T) -> Result<(), NoMemory>
+    pub(crate) fn add(&mut self, before: T, after: T) -> Result<(), NoMemory>
         ensures before { OnOk result (self.new.before.items ≡ self.old.before.items ++ before ∷ []) }
         ensures after { OnOk result (self.new.after.items ≡ self.old.after.items ++ after ∷ []) }
     {

@@ -2,7 +2,7 @@
 //!
 //! The contract to the layer above: after each event `look_at_links`, `look_at_queues` and
 //! `look_at_pipes` give the moments before and after it of the links, queues and pipes of which
-//! something is reported, and keep what stands there now (`specs/Changing.antt`).
+//! something is reported, and keep what stands there now (`specs/Changes.antt`).
 //!
 //! What is kept is kept by numbers where a list is long; what an event changed is read from the world
 //! after it. Looked at are the links of the sites that the event names or at which it lets something
@@ -11,7 +11,7 @@
 //! (`proofs/LinksKept.antt`, `PipesKept.antt`, `QueuesKept.antt`). These sites are found by their
 //! places in the order of sites (`proofs/SitesPassed.antt`, `ModulesPassed.antt`). So an event costs
 //! what it changes, and a look at the links and pipes of one or two sites; a step for each site only
-//! where a transaction entered a queue or left one, or where an event isn't one of a link.
+//! where a transaction entered a queue or left one, or where a module comes up.
 #![tactic(auto)]
 
 mod at_site;

@@ -5,7 +5,7 @@ ghost use Rattle.sdd_progress.specs.obligations.All.{Input, are_linked as are_li
 ghost use Rattle.sdd_schedule.specs.world.Represents.{Calm};
 ghost use Rattle.sdd_moments.specs.Looking.{AreSeen};
 ghost use Rattle.sdd_moments.specs.Reaching.{is_to, may_act, reach_of, touched_from};
-ghost use Rattle.sdd_moments.specs.Changing.{IsOver, all_sites, arrived, changed_links, is_still_link, link_after, link_before, links_from, watched_link, watched_links};
+ghost use Rattle.sdd_moments.specs.Changes.{IsOver, all_sites, arrived, changed_links, is_still_link, link_after, link_before, links_from, watched_link, watched_links};
 
 use crate::at_site::AtSite;
 use crate::both::Both;
@@ -17,9 +17,10 @@ use sdd_progress::{Event, NoMemory, Site};
 use sdd_schedule::World;
 use std::alloc::Global;
 
-/// What happened on links.
+/// What happened on links at an event.
 #[derive(Drop)]
 pub struct OnLinks {
+    /// Of the links of which something is reported.
     pub moments: Both<LinkMoment>,
     /// Of each link on which messages were handed over.
     pub arrived: Vec<Arrived>,
@@ -198,7 +199,10 @@ fn look_at_site(
 }
 
 /// Looks at the links of the sites that an event reaches, once it is carried out; there are so many
-/// transaction modules. The moments are of the links of which something is reported.
+/// transaction modules, and the links stand by site, in the order of sites. The moments are of the
+/// links of which something is reported. Out of memory is its one error, after which the list of
+/// links is of no use. Steps: the links of the one or two sites, and of all sites where a module
+/// comes up.
 pub fn look_at_links(
     alloc: Global,
     world: &World<'_>,
@@ -288,7 +292,8 @@ fn first_links_from(
     })
 }
 
-/// The links between these sites, on which nothing was done.
+/// The links between these sites, on which nothing was done, by the site from which they come. Out
+/// of memory is its one error. Steps: the square of the sites.
 pub fn first_links(alloc: Global, sites: &[Site]) -> Result<Vec<AtSite<WatchedLink>>, NoMemory>
     ensures { IfOk result (λ links. (g : Input) → sites.now ≡ all_sites g
         → links.items ≡ map (watched_links g []) (all_sites g)) }

@@ -6,7 +6,7 @@ ghost use Rattle.sdd_progress.specs.obligations.All.{MAX_DMS, MAX_TMS, are_linke
 use sdd_progress::{DmNo, NoMemory, Site, TmNo};
 use std::alloc::Global;
 
-/// Whether two sites are the same.
+/// Whether two sites are the same. Takes no memory.
 pub fn is_same(one: Site, other: Site) -> bool
     ensures { result ≡ same_site one other }
 {
@@ -20,7 +20,7 @@ pub fn is_same(one: Site, other: Site) -> bool
 
 /// The place of a site in the order of sites, counted from 0, where there are so many transaction
 /// modules.
-pub fn place_of(tms: u32, at: Site) -> usize
+pub(crate) fn place_of(tms: u32, at: Site) -> usize
     ensures { result ≡ place_of tms at }
 {
     match at {
@@ -30,7 +30,8 @@ pub fn place_of(tms: u32, at: Site) -> usize
     }
 }
 
-/// The sites of a network, in their order.
+/// The sites of a network with so many transaction modules and data modules, in their order: U, the
+/// transaction modules from 1 on, the data modules from 1 on. Out of memory is its one error.
 pub fn all_sites(alloc: Global, tms: u32, dms: u32) -> Result<Vec<Site>, NoMemory>
     requires tms { tms ≤ MAX_TMS }
     requires dms { dms ≤ MAX_DMS }
@@ -47,7 +48,7 @@ pub fn all_sites(alloc: Global, tms: u32, dms: u32) -> Result<Vec<Site>, NoMemor
 }
 
 /// Whether there is a link between sites of these kinds.
-pub fn are_linked(a: Site, b: Site) -> bool
+pub(crate) fn are_linked(a: Site, b: Site) -> bool
     ensures { result ≡ are_linked_by a b }
 {
     match (a, b) {

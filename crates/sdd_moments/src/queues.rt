@@ -6,7 +6,7 @@ ghost use Rattle.sdd_schedule.specs.world.Represents.{Calm};
 ghost use Rattle.sdd_moments.specs.Looking.{AreAside, looks, queue_in, queue_of, queues_if};
 ghost use Rattle.sdd_moments.specs.AtEvent.{is_of_queue};
 ghost use Rattle.sdd_moments.specs.Moments.{queues_at, queues_from};
-ghost use Rattle.sdd_moments.specs.Changing.{all_sites, queues_by};
+ghost use Rattle.sdd_moments.specs.Changes.{all_sites, queues_by};
 
 use crate::at_site::AtSite;
 use crate::both::Both;
@@ -95,7 +95,7 @@ fn queues_by_site(
     Ok(queues)
 }
 
-/// All queues, by site.
+/// All queues, by site. Out of memory is its one error. Steps: the transactions in the queues.
 pub fn all_queues(alloc: Global, world: &World<'_>) -> Result<Vec<AtSite<QueueMoment>>, NoMemory>
     requires { (g : Input) × (log : Log) × Calm world.now g log }
     ensures { IfOk result (λ queues. (g : Input) (log : Log) → Calm world.now g log
@@ -174,7 +174,9 @@ fn look_at_queues_of(
 }
 
 /// The queues of the site that may have acted, as they were and as they are, where a transaction
-/// entered a queue or left one. Those of all sites are kept.
+/// entered a queue or left one. Those of all sites are kept. Out of memory is its one error, after
+/// which the list of queues is of no use. Steps: one for each site, and the transactions in the
+/// queues of the one that may have acted; none where no transaction entered a queue or left one.
 pub fn look_at_queues(
     alloc: Global,
     world: &World<'_>,
@@ -216,6 +218,7 @@ fn is_of_queue(made: &(u32, Rec)) -> bool
 }
 
 /// Whether one of the records from a place on is of a transaction that entered a queue or left it.
+/// Takes no memory.
 pub fn have_moved(records: &[(u32, Rec)], from: usize) -> bool
     ensures { result ≡ list_any is_of_queue (drop from records.now) }
 {

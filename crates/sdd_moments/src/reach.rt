@@ -48,7 +48,7 @@ fn reach_of_delivery(from: Site, to: Site, found: &Found) -> Reach
     }
 }
 
-/// Which links an event may have changed that is carried out.
+/// Which links an event may have changed that is carried out and found this. Takes no memory.
 pub fn reach_of(world: &World<'_>, event: &Event, found: &Found) -> Reach
     requires { (g : Input) × (log : Log) × Calm world.now g log }
     ensures { (g : Input) (log : Log) → Calm world.now g log
@@ -66,7 +66,7 @@ pub fn reach_of(world: &World<'_>, event: &Event, found: &Found) -> Reach
 }
 
 /// Whether a site may have acted.
-pub fn may_act(reach: Reach, at: Site) -> bool
+pub(crate) fn may_act(reach: Reach, at: Site) -> bool
     ensures { result ≡ may_act reach at }
 {
     match reach {
@@ -78,7 +78,7 @@ pub fn may_act(reach: Reach, at: Site) -> bool
 }
 
 /// The site that may have acted, if one may.
-pub fn actor(reach: Reach) -> Option<Site>
+pub(crate) fn actor(reach: Reach) -> Option<Site>
     ensures { result ≡ actor reach }
 {
     match reach {
@@ -103,7 +103,7 @@ fn other_end(a: Site, b: Site, at: Site) -> Option<Site>
 }
 
 /// The site to which the link from a site may have changed though no message was put on it.
-pub fn touched_from(reach: Reach, from: Site) -> Option<Site>
+pub(crate) fn touched_from(reach: Reach, from: Site) -> Option<Site>
     ensures { result ≡ touched_from reach from }
 {
     match reach {
@@ -115,7 +115,7 @@ pub fn touched_from(reach: Reach, from: Site) -> Option<Site>
 }
 
 /// Whether a site is that one.
-pub fn is_to(one: Option<Site>, to: Site) -> bool
+pub(crate) fn is_to(one: Option<Site>, to: Site) -> bool
     ensures { result ≡ is_to one to }
 {
     match one {
@@ -132,9 +132,9 @@ fn if_ahead(from: usize, place: usize) -> usize
     if place < from { usize::MAX } else { place }
 }
 
-/// The first place from this one on at which a site stands one of whose links may have changed,
-/// where there are so many transaction modules; it may be past all sites.
-pub fn next_reached(tms: u32, reach: Reach, from: usize) -> usize
+/// A place from this one on before which no site stands one of whose links may have changed, where
+/// there are so many transaction modules; it may be past all sites.
+pub(crate) fn next_reached(tms: u32, reach: Reach, from: usize) -> usize
     ensures ahead { from ≤ result }
     ensures passed { (x : Place) → from ≤ place_of tms x → place_of tms x < result
         → may_change_from reach x ≡ false }
@@ -149,7 +149,7 @@ pub fn next_reached(tms: u32, reach: Reach, from: usize) -> usize
     }
 }
 
-/// The site to which an event gives a transaction, and U where it gives none.
+/// The site to which an event gives a transaction, and U where it gives none. Takes no memory.
 pub fn home_in(reach: Reach) -> Site
     ensures { result ≡ home_in reach }
 {

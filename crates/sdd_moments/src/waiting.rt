@@ -50,7 +50,7 @@ fn purposed_above(sent: u32, packet: &Packet<Msg>) -> Option<(u32, Purpose)>
 /// The messages of a link that aren't handed over, with their numbers: those that have a purpose, in
 /// order. Contracts see the list of them.
 #[derive(Drop)]
-pub struct Waiting {
+pub(crate) struct Waiting {
     messages: VecDeque<(u32, Purpose)>,
 }
 
@@ -64,7 +64,7 @@ impl Model for Waiting {
 }
 
 impl Waiting {
-    pub fn new(alloc: Global) -> Waiting
+    pub(crate) fn new(alloc: Global) -> Waiting
         ensures { result ≡ [] }
     {
         Waiting {
@@ -85,7 +85,7 @@ impl Waiting {
 
     /// Adds the messages of packets whose numbers are above this one.
     #[tactic(auto, using(crate::proofs::Loops::filtered_more, crate::proofs::Loops::filtered_end))]
-    pub fn note_all(&mut self, sent: u32, packets: &[Packet<Msg>]) -> Result<(), NoMemory>
+    pub(crate) fn note_all(&mut self, sent: u32, packets: &[Packet<Msg>]) -> Result<(), NoMemory>
         ensures { OnOk result (self.new
             ≡ self.old ++ filter_map (purposed_above sent) packets.now) }
     {
@@ -114,7 +114,11 @@ impl Waiting {
 
     /// Takes the messages up to this number.
     #[tactic(auto, using(crate::proofs::Awaited::taken_more, crate::proofs::Awaited::left_more, crate::proofs::Awaited::taken_end, crate::proofs::Awaited::shorter))]
-    pub fn take_up_to(&mut self, alloc: Global, upto: u32) -> Result<Vec<(u32, Purpose)>, NoMemory>
+    pub(crate) fn take_up_to(
+        &mut self,
+        alloc: Global,
+        upto: u32,
+    ) -> Result<Vec<(u32, Purpose)>, NoMemory>
         ensures taken { IfOk result (λ taken. taken.items ≡ up_to upto self.old) }
         ensures left { OnOk result (self.new ≡ behind upto self.old) }
     {

@@ -5,7 +5,7 @@ ghost use Rattle.sdd_progress.specs.obligations.All.{Input, IsLinkOf, Log, Site 
 ghost use Rattle.sdd_inside.specs.Differences.{is_of_link, takes_one};
 ghost use Rattle.sdd_moments.specs.Awaiting.{behind};
 ghost use Rattle.sdd_moments.specs.Looking.{advanced, arrived_with, seen_with};
-ghost use Rattle.sdd_moments.specs.Changing.{IsOver, is_taken, left_of, seen_between, watched_link};
+ghost use Rattle.sdd_moments.specs.Changes.{IsOver, is_taken, left_of, seen_between, watched_link};
 
 use crate::places::is_same;
 use crate::waiting::{Purpose, Waiting};
@@ -22,7 +22,7 @@ pub struct Arrived {
     pub messages: Listed<(u32, Purpose)>,
 }
 
-/// Whether a message was handed to a site.
+/// Whether a message was handed to a site. Takes no memory; steps: the links on which some were.
 pub fn is_reached(arrived: &[Arrived], at: Site) -> bool
     ensures { result ≡ list_any (λ one. same_site one.to at) arrived.now }
 {
@@ -31,26 +31,26 @@ pub fn is_reached(arrived: &[Arrived], at: Site) -> bool
 
 /// A link before an event and after it, and what was handed over on it.
 #[derive(Drop)]
-pub struct LinkSeen {
-    pub before: LinkMoment,
-    pub after: LinkMoment,
+pub(crate) struct LinkSeen {
+    pub(crate) before: LinkMoment,
+    pub(crate) after: LinkMoment,
     /// None where no message was handed over.
-    pub arrived: Option<Arrived>,
+    pub(crate) arrived: Option<Arrived>,
 }
 
 /// A link, as it stood when the last event was over.
 #[derive(Drop)]
 pub struct WatchedLink {
-    pub from: Site,
-    pub to: Site,
+    pub(crate) from: Site,
+    pub(crate) to: Site,
     /// How many packets were in flight.
-    pub flying: usize,
+    pub(crate) flying: usize,
     /// How many messages were put on it.
-    pub sent: u32,
+    pub(crate) sent: u32,
     /// How many of them were handed over.
-    pub handed: u32,
+    pub(crate) handed: u32,
     /// The messages that weren't.
-    pub waiting: Waiting,
+    pub(crate) waiting: Waiting,
 }
 
 fn takes_one(found: &Found) -> bool
@@ -105,7 +105,7 @@ fn moment(from: Site, to: Site, packets: Packets<Msg>, sent: u32, handed: u32) -
 
 impl WatchedLink {
     /// A link on which nothing was done.
-    pub fn new(alloc: Global, from: Site, to: Site) -> WatchedLink
+    pub(crate) fn new(alloc: Global, from: Site, to: Site) -> WatchedLink
         ensures { result ≡ watched_link [] (from, to) }
     {
         WatchedLink {
@@ -164,7 +164,7 @@ impl WatchedLink {
     }
 
     /// Looks at the link once an event is carried out.
-    pub fn look(
+    pub(crate) fn look(
         &mut self,
         alloc: Global,
         world: &World<'_>,

@@ -12,7 +12,7 @@ ghost use Rattle.sdd_moments.specs.Awaiting.{number_for};
 ghost use Rattle.sdd_moments.specs.Looking.{ArePipesSeen, messages_in, numbers_for};
 ghost use Rattle.sdd_moments.specs.Moments.{pipes_at_module, source};
 ghost use Rattle.sdd_moments.specs.Reaching.{is_to, reach_between};
-ghost use Rattle.sdd_moments.specs.Changing.{IsBetween, arrived as all_arrived, changed_pipes, is_changed_pipe, is_on, is_still_pipe, pipe_after, pipe_before, watched_pipe, watched_pipes};
+ghost use Rattle.sdd_moments.specs.Changes.{IsBetween, arrived as all_arrived, changed_pipes, is_changed_pipe, is_on, is_still_pipe, pipe_after, pipe_before, watched_pipe, watched_pipes};
 
 use crate::at_site::AtSite;
 use crate::both::Both;
@@ -28,12 +28,12 @@ use std::alloc::Global;
 /// The pipe of a class at a data module, as it stood when the last event was over.
 #[derive(Drop)]
 pub struct WatchedPipe {
-    pub dm: DmNo,
-    pub class: ClassNo,
+    pub(crate) dm: DmNo,
+    pub(crate) class: ClassNo,
     /// The site that runs the class.
-    pub source: Site,
+    pub(crate) source: Site,
     /// How many messages in it weren't processed.
-    pub unprocessed: usize,
+    pub(crate) unprocessed: usize,
 }
 
 /// Adds the number of a message, where it goes through the pipe of a class.
@@ -284,7 +284,8 @@ fn first_pipes_at(
     })
 }
 
-/// The pipes of all data modules, before the first event.
+/// The pipes of all data modules, before the first event, by data module. Out of memory is its one
+/// error. Steps: the data modules times the classes.
 pub fn first_pipes(
     alloc: Global,
     catalogue: &Catalogue,
@@ -361,7 +362,9 @@ fn place_among_dms(at: Option<Site>) -> usize
 }
 
 /// Looks at the pipes of the data module that may have acted, where these messages were handed over.
-/// The moments are of the pipes of which something is reported.
+/// The moments are of the pipes of which something is reported. Out of memory is its one error, after
+/// which the list of pipes is of no use. Steps: the pipes of one data module, for each the messages
+/// that were handed over.
 pub fn look_at_pipes(
     alloc: Global,
     world: &World<'_>,

@@ -78,7 +78,7 @@ pub use Rattle.sdd_watch.specs.ScheduleSoFar.{Foresees, Tells}
 pub use Rattle.sdd_watch.specs.States.{actives, head_by, phase_by, questions_to, report_head, reported_active, reported_attempt, reported_dm, reported_tm, says_applied, state_of, unapplied_of}
 pub use Rattle.sdd_watch.specs.Text.{IsTextOf, change, inside_text, line_of}
 pub use Rattle.sdd_watch.specs.Watching.{AreCommits, AreDones, IsTellable, IsToTell, IsTurn, Knows, Watches, foresee_act, foresee_take, foreseen_by, is_done_at, taken_at}
-pub use Rattle.sdd_moments.specs.Changing.{IsBetween, IsOver, all_sites, arrived, arrived_on, changed_links, changed_pipes, handed_over, is_changed_link, is_changed_pipe, is_still_link, is_still_pipe, is_taken, left_between, left_of, link_after, link_before, pipe_after, pipe_before, queues_by, watched_links, watched_pipes}
+pub use Rattle.sdd_moments.specs.Changes.{IsBetween, IsOver, all_sites, arrived, arrived_on, changed_links, changed_pipes, handed_over, is_changed_link, is_changed_pipe, is_still_link, is_still_pipe, is_taken, left_between, left_of, link_after, link_before, pipe_after, pipe_before, queues_by, watched_links, watched_pipes}
 pub use Rattle.sdd_watch.specs.declared.commits.Commits.{Commits}
 pub use Rattle.sdd_watch.specs.declared.dones.Dones.{Dones}
 pub use Rattle.sdd_watch.specs.declared.foreseen.Foreseen.{Foreseen}

@@ -3,7 +3,7 @@ use Rattle.sdd_watch.proofs.All.{Arrived, Bool, Event, Found, Input, IsSiteOf, I
 use Rattle.sdd_moments.proofs.Came.{arrived_if, still}
 use Rattle.sdd_moments.proofs.SitesPlaced.{site_place}
 use Rattle.sdd_watch.proofs.TakingPart.{none_takes}
-use Rattle.sdd_moments.proofs.ReachedIs.{reached_is}
+use Rattle.sdd_moments.proofs.SitesReached.{reached_is}
 
 -- of a list the one member that passes a test
 

@@ -1,7 +1,7 @@
 -- Which sites take part in an event.
 use Rattle.sdd_watch.proofs.All.{Arrived, Bool, Down, Event, Found, Input, List, Log, Redeclare, Site, Submit, Tick, TmNo, TxnNo, Up, [], ap, append-nil, arrived, concerns, Deliver, false, filter, found_by, given_to, home_in, if◌then◌else◌, is_reached, last_event, list_any, reach_of, refl, same_site, sym, takes_part, true, ℕ, ◌++◌, ◌||◌, ◌∙◌, ◌∷◌, ◌≡◌}
 use Rattle.sdd_inside.specs.declared.delta.Found.TheVariants as founds
-use Rattle.sdd_moments.proofs.ReachedIs.{is_to, reached_is}
+use Rattle.sdd_moments.proofs.SitesReached.{is_to, reached_is}
 
 pub takes_reached : (g : Input) (old new : Log) (at : Site) (known : List Arrived) (b : Bool)
     → b ≡ list_any (λ (one : Arrived). same_site one.to at) known → known ≡ arrived g old new → b ≡ true → true ≡ takes_part g old new at

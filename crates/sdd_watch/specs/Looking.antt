@@ -5,7 +5,7 @@ use Rattle.std.specs.List.{flat_map, list_any}
 use Rattle.sdd_moments.specs.obligations.All.{D, Input, Log, Site, U, numbers_to}
 use Rattle.sdd_moments.specs.Looking.{AreAside, queues_if}
 use Rattle.sdd_watch.specs.Watching.{Knows}
-use Rattle.sdd_moments.specs.Changing.{all_sites, arrived, changed_links, changed_pipes, link_after, link_before, pipe_after, pipe_before, queues_by, watched_links, watched_pipes}
+use Rattle.sdd_moments.specs.Changes.{all_sites, arrived, changed_links, changed_pipes, link_after, link_before, pipe_after, pipe_before, queues_by, watched_links, watched_pipes}
 use Rattle.sdd_moments.specs.declared.reach.Reach.{Reach}
 use Rattle.sdd_moments.specs.declared.waiting.Purpose.{Purpose}
 use Rattle.sdd_moments.specs.declared.waiting.Purpose.TheVariants.{Applied, Piped}

@@ -14,7 +14,7 @@ use Rattle.sdd_moments.specs.schedule.declared.turn.Turn.{Turn}
 use Rattle.sdd_moments.specs.schedule.world.Represents.{Calm}
 use Rattle.sdd_moments.specs.schedule.world.declared.world.World.{World}
 use Rattle.sdd_moments.specs.AtEvent.{taken}
-use Rattle.sdd_moments.specs.Changing.{all_sites, queues_by, watched_links, watched_pipes}
+use Rattle.sdd_moments.specs.Changes.{all_sites, queues_by, watched_links, watched_pipes}
 use Rattle.sdd_moments.specs.Moments.{handed_on}
 use Rattle.sdd_watch.specs.declared.commits.Commits.{Commits}
 use Rattle.sdd_watch.specs.declared.dones.Dones.{Dones}

@@ -5,7 +5,8 @@
 //!
 //! `Watch` keeps what stood where when the last event was over. What an event changed of links, queues
 //! and pipes `sdd_moments` finds; here stand what the event was about to find, the rows that it
-//! changed, the sites that took part and how they stand, and the line that tells all this.
+//! changed, the sites that took part and how they stand, and the line that tells all this. Sites are
+//! gone through one by one only at an event that isn't one of a link.
 #![tactic(auto)]
 
 mod commits;

@@ -7,7 +7,7 @@ ghost use Rattle.sdd_moments.specs.obligations.copy.Contents.{Dated};
 ghost use Rattle.sdd_moments.specs.schedule.world.Represents.{Calm};
 ghost use Rattle.sdd_watch.specs.Happens.{applied_by, applied_in, changes_applied, is_of_item, report_row, row_left, rows_of, with_row};
 ghost use Rattle.sdd_watch.specs.Watching.{AreCommits};
-ghost use Rattle.sdd_moments.specs.Changing.{IsBetween};
+ghost use Rattle.sdd_moments.specs.Changes.{IsBetween};
 
 use crate::commits::Commits;
 use sdd_inside::RowDelta;

@@ -8,7 +8,7 @@ ghost use Rattle.sdd_moments.specs.AtEvent.{found_by, last_event};
 ghost use Rattle.sdd_moments.specs.Reaching.{given_to};
 ghost use Rattle.sdd_watch.specs.States.{state_of};
 ghost use Rattle.sdd_watch.specs.Watching.{AreDones};
-ghost use Rattle.sdd_moments.specs.Changing.{all_sites, arrived as arrived_between};
+ghost use Rattle.sdd_moments.specs.Changes.{all_sites, arrived as arrived_between};
 
 use crate::dones::Dones;
 use crate::states::state;

@@ -8,7 +8,7 @@ ghost use Rattle.sdd_watch.specs.Looking.{HasLooked, IsSeen};
 ghost use Rattle.sdd_moments.specs.Reaching.{given_to, reach_of};
 ghost use Rattle.sdd_watch.specs.Text.{change};
 ghost use Rattle.sdd_watch.specs.Watching.{AreCommits, IsTurn, Knows, Watches};
-ghost use Rattle.sdd_moments.specs.Changing.{IsBetween, IsOver, arrived as arrived_between};
+ghost use Rattle.sdd_moments.specs.Changes.{IsBetween, IsOver, arrived as arrived_between};
 
 use crate::commits::Commits;
 use crate::dones::Dones;

@@ -1,7 +1,7 @@
 use Rattle.sdd_moments.proofs.All.{Arrived, D, Input, List, Log, Site, WatchedPipe, ap, arith, arrived, dm_no, false, is_reached, list_any, pipes_at_module, same_site, sym, watched_pipe, watched_pipes, ℕ, ◌∙◌, ◌≡◌}
 use Rattle.sdd_moments.proofs.Visited.{written_back}
 use Rattle.sdd_moments.proofs.PipesKept.{module_kept, none_seen}
-use Rattle.sdd_moments.proofs.ReachedIs.{reached_is}
+use Rattle.sdd_moments.proofs.SitesReached.{reached_is}
 use Rattle.sdd_moments.proofs.watched_pipe.look_at_module.Goals as goal
 
 unreached : (c : goal.Then-not-is_reached) (g : Input) (old new : Log) (d : ℕ) → c.args.arrived.now ≡ arrived g old new
