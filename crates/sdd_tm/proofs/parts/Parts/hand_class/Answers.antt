@@ -1,5 +1,3 @@
-use Rattle.std.proofs.Common.{arith}
-use Rattle.std.proofs.lemmas.Grind.{elements}
 -- The message changes the class that it names alone.
 use Rattle.sdd_tm.proofs.All.{State, ap, slice_index_or, slice_set, subst, ◌∙◌, ◌≡◌}
 use Rattle.sdd_tm.proofs.Taking.{handed_nowhere, handed_somewhere}
@@ -16,6 +14,3 @@ returns-in_ok-hand-in-Some-clause-state c =
     (subst (λ (st : State). c.index_mut-run.result.now ≡ slice_index_or st.classes c.in-Some.place
     c.index_mut-run.result.now) c.self.view_is c.index_mut-run.ensures.value)
     c.in_ok-hand-in-Some.ensures
-
-pub hand-requires : goal.hand-requires
-hand-requires c = grind (arith, elements)

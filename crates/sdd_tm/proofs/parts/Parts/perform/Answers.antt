@@ -1,5 +1,3 @@
-use Rattle.std.proofs.Common.{arith}
-use Rattle.std.proofs.lemmas.Grind.{elements}
 -- The class at the place is the one that was lent.
 use Rattle.sdd_tm.proofs.All.{OnOk, State, subst}
 use Rattle.sdd_tm.proofs.Settling.{NotesDone}
@@ -14,15 +12,3 @@ returns-clause-draft c =
     c.self.inside.on_hold c.self.inside.owes_held c.self.inside.classes.items) c.args.place c.args.step
     c.index_mut-run.result.now c.args.draft.now c.perform.new.draft c.index_mut-run.ensures.value
     c.perform.ensures.draft)
-
-pub perform-requires-clause-declared : goal.perform-requires-clause-declared
-perform-requires-clause-declared c = grind (arith, elements)
-
-pub perform-requires-clause-idle : goal.perform-requires-clause-idle
-perform-requires-clause-idle c = grind (arith, elements)
-
-pub perform-requires-clause-tries : goal.perform-requires-clause-tries
-perform-requires-clause-tries c = grind (arith, elements)
-
-pub returns-clause-state : goal.returns-clause-state
-returns-clause-state c = grind (arith, elements)

@@ -1,4 +1,3 @@
-use Rattle.std.proofs.lemmas.Grind.{common_steps}
 -- A transaction is taken, and then each act is made that is due.
 use Rattle.sdd_tm.proofs.All.{Kept, Notes, State, Submit, Submits, Works, [], ap, arith, one_place, place_of, refl, state_given, subst, true, ◌++◌, ◌∙◌, ◌∷◌, ◌≡◌}
 use Rattle.sdd_tm.proofs.Calls.{class_here, given_to, few_given, calm_after, amid_after, submit_does}
@@ -58,6 +57,3 @@ returns-clause-law c =
       held_is_sent = c.in_ok-tell_held.ensures.state;
       noted_is = c.in_ok-tell_held.ensures.draft;
     }) c.finish.ensures.recs c.finish.ensures.out
-
-pub settle-requires-clause-end : goal.settle-requires-clause-end
-settle-requires-clause-end c = grind (arith, common_steps)

@@ -1,5 +1,3 @@
-use Rattle.std.proofs.Common.{arith}
-use Rattle.std.proofs.lemmas.Grind.{common_steps}
 -- A message is taken, and then each act is made that is due.
 use Rattle.sdd_tm.proofs.All.{Handed, Kept, State, Works, ap, refl, state_handed, subst, touched, true, ◌∙◌, ◌∷◌, ◌≡◌}
 use Rattle.sdd_tm.proofs.Calls.{few_handed, calm_for, amid_for, take_does}
@@ -45,6 +43,3 @@ returns-clause-law c =
       held_is_sent = c.in_ok-tell_held.ensures.state;
       noted_is = c.in_ok-tell_held.ensures.draft;
     }) c.finish.ensures.recs c.finish.ensures.out
-
-pub settle-requires-clause-end : goal.settle-requires-clause-end
-settle-requires-clause-end c = grind (arith, common_steps)
