@@ -30,6 +30,9 @@ impl Answer {
         ensures status { IsTrue result → self.now.status ≡ other.now.status }
         ensures out { IsTrue result → self.now.out.sink.taken ≡ other.now.out.sink.taken }
         ensures err { IsTrue result → self.now.err.sink.taken ≡ other.now.err.sink.taken }
+        ensures alike { self.now.status ≡ other.now.status
+            → self.now.out.sink.taken ≡ other.now.out.sink.taken
+            → self.now.err.sink.taken ≡ other.now.err.sink.taken → IsTrue result }
     {
         self.status == other.status
             && self.out.taken() == other.out.taken()
