@@ -1,34 +1,34 @@
 mod All
-pub mod Awaited
+mod Awaited
 pub mod Between
 pub mod Came
-pub mod FirstLinks
+mod FirstLinks
 pub mod Flights
-pub mod Found
-pub mod LeftAlone
-pub mod LinksKept
+mod Found
+mod LeftAlone
+mod LinksKept
 pub mod LinksLooked
-pub mod Looked
+mod Looked
 pub mod Loops
-pub mod ModulesPassed
-pub mod ModulesVisited
+mod ModulesPassed
+mod ModulesVisited
 pub mod Numbered
-pub mod PipesBegun
-pub mod PipesKept
-pub mod PipesLooked
+mod PipesBegun
+mod PipesKept
+mod PipesLooked
 pub mod PipesVisited
 pub mod Queued
 pub mod QueuesKept
-pub mod QueuesLooked
-pub mod Reached
+mod QueuesLooked
+mod Reached
 pub mod SitesReached
 pub mod Recorded
-pub mod SitesPassed
+mod SitesPassed
 pub mod SitesPlaced
 pub mod SitesThere
 pub mod SoFar
-pub mod Sourced
-pub mod Touched
+mod Sourced
+mod Touched
 pub mod Visited
 pub use Rattle.sdd_progress.proofs as progress
 pub use Rattle.sdd_schedule.proofs as schedule
